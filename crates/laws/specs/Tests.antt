@@ -1,0 +1,44 @@
+-- What a passed or failed test of the rules says.
+use Prim.Native.Nat.{ℕ, zero, suc, _+_, _<_, _≤_}
+use mathlib.Core.Path.{_≡_, refl}
+use mathlib.Core.Bool.{Bool, true, false}
+use mathlib.Core.Logic.{_⊎_, inl, inr}
+use native.Mathlib.Omega.{arith}
+use native.Mathlib.Decide.{ℕ-discrete}
+use Rattle.rules.specs.declared.Found.{Found}
+use Rattle.rules.specs.declared.Found.the-variants.{At, Nowhere}
+use Rattle.rules.specs.Lists.{both, either, first, lowest}
+
+pub false-true : false ≡ true → ⊥
+false-true e = let z : _≡_ {A = ℕ} 0 1 = cc in omega arith
+
+pub both-true : (a b : Bool) → both a b ≡ true → (a ≡ true) × (b ≡ true)
+unfolding both
+both-true true true e = (refl, refl)
+both-true true false e = absurd (false-true e)
+both-true false true e = absurd (false-true e)
+both-true false false e = absurd (false-true e)
+
+pub either-true : (a b : Bool) → either a b ≡ true → (a ≡ true) ⊎ (b ≡ true)
+unfolding either
+either-true true b e = inl refl
+either-true false true e = inr refl
+either-true false false e = absurd (false-true e)
+
+first-none : (k : ℕ) (ok : ℕ → Bool) (i : ℕ) → first k ok i ≡ Nowhere → (j : ℕ) → i ≤ j → j < i + k → ok j ≡ false
+unfolding first
+first-none zero ok i e j a b = absurd (omega arith)
+first-none (suc k) ok i e j a b = go (ok i) refl (first-none k ok (i + 1))
+  where
+    go : (x : Bool) → ok i ≡ x → (first k ok (i + 1) ≡ Nowhere → (j : ℕ) → i + 1 ≤ j → j < i + 1 + k → ok j ≡ false) → ok j ≡ false
+    go true q ih = absurd (let z : At i ≡ Nowhere = (rw (q, first) at e) in let y : _≡_ {A = ℕ} 0 1 = cc in omega arith)
+    go false q ih = same (ℕ-discrete i j)
+      where
+        same : Dec (i ≡ j) → ok j ≡ false
+        same (yes z) = rw (← z) q
+        same (no z) = ih (rw (q, first) at e) j (omega arith) (omega arith)
+
+-- a search that finds nothing: none passes
+pub lowest-none : (n : ℕ) (ok : ℕ → Bool) → lowest n ok ≡ Nowhere → (j : ℕ) → j < n → ok j ≡ false
+unfolding lowest
+lowest-none n ok e j h = first-none n ok 0 e j (omega arith) (omega arith)

@@ -1,0 +1,1 @@
+pub mod Reading  -- a record's words as code reads them
