@@ -1,4 +1,4 @@
--- What a closed computation unfolds, said once: whoever unfolds `everything` unfolds what its line names. Written by tools/all.py.
+-- What a closed computation unfolds, said once: whoever unfolds `everything` unfolds what its line names.
 use Rattle.rules.specs.Lists.{both, either, all, any, each, among, distinct, those, least, from, below, first, lowest}
 use Rattle.rules.specs.Words.{has, isType, isTerm, form, cells, elements, arguments, bare, variables}
 use Rattle.rules.specs.Answers.{number, records, pairs}

@@ -99,7 +99,7 @@ unfoldable pub upcoming : List Pair → Next → List Pair
 upcoming q (on l r) = (l, r) ∷ q
 upcoming q (done q₁) = q₁
 
--- steps until no pair is left; fuel bounds the steps
+-- steps until no pair is left; fuel bounds the steps, each of which writes a record or takes a pair apart
 unfoldable pub run : ℕ → ℕ → ℕ → List Pair → Store → Out (List Pair)
 run zero R C q s = spent
 run (suc f) R C [] s = goes s []
@@ -107,13 +107,13 @@ run (suc f) R C (p ∷ q) s = do
   (s₁, next) ← step R C q (p .0) (p .1) s
   run f R C (upcoming q next) s₁
 
--- more than the steps, none of which writes, that come of a pair whose left side is below l: a pair is replaced by at most 16
--- pairs with lower left sides
+-- bounds the steps that come of a pair whose left side is record l while none of them writes: the pair is taken apart into at most
+-- 16 pairs whose left sides are lower records
 unfoldable pub weight : ℕ → ℕ
 weight zero = 1
 weight (suc l) = 1 + 16 * weight l
 
--- more than the steps of a run: between two steps that write, of which there are at most R, at most C + 1 pairs are taken apart
+-- bounds the steps of a run: at most R of them write, and between these at most C + 1 pairs are taken apart
 unfoldable pub steps : ℕ → ℕ → ℕ
 steps R C = (R + 1) * (1 + (C + 1) * weight R)
 

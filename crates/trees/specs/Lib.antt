@@ -1,0 +1,24 @@
+-- The crate: Tree, Moves and Statements hold definitions and statements only, Theorems the proof of each statement.
+pub mod Tree
+pub mod Moves
+pub mod Statements
+pub mod Renaming
+pub mod Free
+pub mod Partial
+pub mod Filling
+pub mod Size
+pub mod Narrow
+pub mod Typing
+pub mod Places
+pub mod Pairs
+pub mod Update
+pub mod Order
+pub mod Leads
+pub mod Read
+pub mod Stuck
+pub mod Walk
+pub mod Expand
+pub mod Demand
+pub mod Theorems
+pub mod Examples
+pub mod Failures

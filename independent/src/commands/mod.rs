@@ -1,0 +1,6 @@
+//! The commands of the binary: what each writes, as functions of their arguments.
+
+pub mod check_seeds;
+pub mod expected;
+pub mod files;
+pub mod words;

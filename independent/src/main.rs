@@ -1,0 +1,102 @@
+//! The binary: reads the command line and hands over to the command asked for.
+
+use independent::commands::check_seeds::check_seeds;
+use independent::commands::expected::write_expected;
+use independent::commands::files::write_files;
+use independent::commands::words::write_words;
+use independent::generate::Scale;
+use independent::text::{assemble, disassemble};
+use std::io::{self, BufWriter, Read, Write};
+use std::path::Path;
+use std::process::ExitCode;
+
+const USAGE: &str = "usage:
+  independent run                               problem file on standard input, the program's print out
+  independent asm [FILE]                        text form to a problem file, on standard output
+  independent disasm [FILE]                     problem file to text form, on standard output
+  independent check-seeds SEED COUNT [--small]  solve, show and self-check generated problems
+  independent words SEED COUNT [--small]        generated problems and what solve and show leave
+  independent files SEED COUNT [--small]        generated files and what read leaves
+  independent expected EXAMPLES OUT             the program's print for each example of a folder
+";
+
+fn main() -> ExitCode {
+    let arguments: Vec<String> =
+        std::env::args_os().skip(1).map(|a| a.to_string_lossy().into_owned()).collect();
+    match command(&arguments) {
+        Ok(code) => code,
+        Err(error) => {
+            let _ = writeln!(io::stderr(), "independent: {error}");
+            ExitCode::from(2)
+        }
+    }
+}
+
+fn command(arguments: &[String]) -> Result<ExitCode, String> {
+    let words: Vec<&str> = arguments.iter().map(String::as_str).collect();
+    match words.as_slice() {
+        ["run"] => print(&independent::program(&input(None)?)),
+        ["asm"] => print(&assemble(&text(input(None)?))?),
+        ["asm", file] => print(&assemble(&text(input(Some(file))?))?),
+        ["disasm"] => print(disassemble(&input(None)?)?.as_bytes()),
+        ["disasm", file] => print(disassemble(&input(Some(file))?)?.as_bytes()),
+        ["words", rest @ ..] => {
+            let (seed, count, scale) = seeds(rest)?;
+            stream(|out| write_words(out, seed, count, scale))
+        }
+        ["files", rest @ ..] => {
+            let (seed, count, scale) = seeds(rest)?;
+            stream(|out| write_files(out, seed, count, scale))
+        }
+        ["check-seeds", rest @ ..] => {
+            let (seed, count, scale) = seeds(rest)?;
+            let mut faults = 0;
+            stream(|out| {
+                faults = check_seeds(out, seed, count, scale)?;
+                Ok(())
+            })?;
+            Ok(if faults == 0 { ExitCode::SUCCESS } else { ExitCode::from(1) })
+        }
+        ["expected", examples, out] => {
+            let count = write_expected(Path::new(examples), Path::new(out))?;
+            print(format!("{count} written\n").as_bytes())
+        }
+        ["help"] | ["--help"] => print(USAGE.as_bytes()),
+        _ => Err(format!("no such command\n{USAGE}")),
+    }
+}
+
+fn seeds(rest: &[&str]) -> Result<(u64, u64, Scale), String> {
+    let number = |word: &str| word.parse::<u64>().map_err(|_| format!("{word} is not a number that fits"));
+    match rest {
+        [seed, count] => Ok((number(seed)?, number(count)?, Scale::Usual)),
+        [seed, count, "--small"] => Ok((number(seed)?, number(count)?, Scale::Small)),
+        _ => Err(format!("a seed and a count are asked\n{USAGE}")),
+    }
+}
+
+fn input(file: Option<&str>) -> Result<Vec<u8>, String> {
+    match file {
+        Some(path) => std::fs::read(path).map_err(|error| format!("{path}: {error}")),
+        None => {
+            let mut bytes = Vec::new();
+            io::stdin().read_to_end(&mut bytes).map_err(|error| format!("standard input: {error}"))?;
+            Ok(bytes)
+        }
+    }
+}
+
+fn text(bytes: Vec<u8>) -> String {
+    String::from_utf8_lossy(&bytes).into_owned()
+}
+
+fn print(bytes: &[u8]) -> Result<ExitCode, String> {
+    stream(|out| out.write_all(bytes))
+}
+
+fn stream(write: impl FnOnce(&mut dyn Write) -> io::Result<()>) -> Result<ExitCode, String> {
+    let mut out = BufWriter::new(io::stdout().lock());
+    let done = write(&mut out).and_then(|()| out.flush());
+    done.map_err(|error| format!("standard output: {error}"))?;
+    Ok(ExitCode::SUCCESS)
+}
