@@ -8,6 +8,7 @@ pub mod random;
 pub mod read;
 pub mod reply;
 pub mod selfcheck;
+pub mod stored;
 pub mod text;
 pub mod tree;
 pub mod words;

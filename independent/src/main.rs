@@ -5,6 +5,7 @@ use independent::commands::expected::write_expected;
 use independent::commands::files::write_files;
 use independent::commands::words::write_words;
 use independent::generate::Scale;
+use independent::stored::stream;
 use independent::text::{assemble, disassemble};
 use std::io::{self, BufWriter, Read, Write};
 use std::path::Path;
@@ -18,6 +19,8 @@ const USAGE: &str = "usage:
   independent words SEED COUNT [--small]        generated problems and what solve and show leave
   independent files SEED COUNT [--small]        generated files and what read leaves
   independent expected EXAMPLES OUT             the program's print for each example of a folder
+  independent checks-in | checks-out            the stored checks, and answer and place of each
+  independent replay-in | replay-out            the stored calls, and what each leaves
 ";
 
 fn main() -> ExitCode {
@@ -42,16 +45,16 @@ fn command(arguments: &[String]) -> Result<ExitCode, String> {
         ["disasm", file] => print(disassemble(&input(Some(file))?)?.as_bytes()),
         ["words", rest @ ..] => {
             let (seed, count, scale) = seeds(rest)?;
-            stream(|out| write_words(out, seed, count, scale))
+            to_output(|out| write_words(out, seed, count, scale))
         }
         ["files", rest @ ..] => {
             let (seed, count, scale) = seeds(rest)?;
-            stream(|out| write_files(out, seed, count, scale))
+            to_output(|out| write_files(out, seed, count, scale))
         }
         ["check-seeds", rest @ ..] => {
             let (seed, count, scale) = seeds(rest)?;
             let mut faults = 0;
-            stream(|out| {
+            to_output(|out| {
                 faults = check_seeds(out, seed, count, scale)?;
                 Ok(())
             })?;
@@ -61,6 +64,10 @@ fn command(arguments: &[String]) -> Result<ExitCode, String> {
             let count = write_expected(Path::new(examples), Path::new(out))?;
             print(format!("{count} written\n").as_bytes())
         }
+        ["checks-in"] => to_output(stream::write_checks_in),
+        ["checks-out"] => to_output(stream::write_checks_out),
+        ["replay-in"] => to_output(stream::write_replay_in),
+        ["replay-out"] => to_output(stream::write_replay_out),
         ["help"] | ["--help"] => print(USAGE.as_bytes()),
         _ => Err(format!("no such command\n{USAGE}")),
     }
@@ -91,10 +98,10 @@ fn text(bytes: Vec<u8>) -> String {
 }
 
 fn print(bytes: &[u8]) -> Result<ExitCode, String> {
-    stream(|out| out.write_all(bytes))
+    to_output(|out| out.write_all(bytes))
 }
 
-fn stream(write: impl FnOnce(&mut dyn Write) -> io::Result<()>) -> Result<ExitCode, String> {
+fn to_output(write: impl FnOnce(&mut dyn Write) -> io::Result<()>) -> Result<ExitCode, String> {
     let mut out = BufWriter::new(io::stdout().lock());
     let done = write(&mut out).and_then(|()| out.flush());
     done.map_err(|error| format!("standard output: {error}"))?;

@@ -16,7 +16,7 @@ pub fn assemble(text: &str) -> Result<Vec<u8>, String> {
 }
 
 /// The record of one line, None for a blank line; `#` starts a comment.
-fn record_of_line(line: &str) -> Result<Option<Record>, String> {
+pub fn record_of_line(line: &str) -> Result<Option<Record>, String> {
     let content = line.split('#').next().unwrap_or("");
     let mut parts = content.split_whitespace();
     let Some(mark) = parts.next() else {

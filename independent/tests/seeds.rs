@@ -31,8 +31,8 @@ fn generated_files_are_read_as_they_should() {
 #[test]
 fn every_answer_and_every_kind_is_met() {
     let mut answers = [0; 14];
-    let mut kinds = [0; 5];
-    for index in 0..2000 {
+    let mut kinds = [0; Kind::ALL.len()];
+    for index in 0..3000 {
         let mut p = problem(4, index, Scale::Small);
         kinds[Kind::ALL.iter().position(|&kind| kind == p.kind).unwrap()] += 1;
         let reply = solve(&mut p.table, p.n, &mut p.solutions, &mut p.queue);

@@ -54,6 +54,7 @@ pub record Readable (os : List ℕ) (x : Shown) : Type 0 where
   pub out : Store
   pub outputs : Outputs (records os) out
   pub words-are : out .words ≡ x .output
+  pub used-is : out .used ≡ x .behind .said .used
   pub root : ARoot out (x .behind .said .used - 1)
 
 -- show answers at most 11, and where it answers 0 the output can be read
@@ -80,7 +81,7 @@ shows-answers R n home t l os h f lt zero-said table-is solutions-are =
     go : (o : Out ℕ) → answer (records os) (l .table) h (blank os (l .solutions)) ≡ o → Writes (records os) (t .solutions) ARoot (blank os (l .solutions)) o → Answers os (shows l os h)
     go (goes s r) e i =
         let z : s .used - 1 ≡ r = omega arith in
-        rw (zero-said, shows, e) (record { low = omega arith; written = λ y. record { out = s; outputs = i .outputs; words-are = refl; root = rw z (i .root) } })
+        rw (zero-said, shows, e) (record { low = omega arith; written = λ y. record { out = s; outputs = i .outputs; words-are = refl; used-is = refl; root = rw z (i .root) } })
     go (fails ws ss x) e i = rw (zero-said, shows, e) (record { low = omega arith; written = λ y. absurd (omega arith) })
     go spent e i = absurd i
 

@@ -12,6 +12,7 @@ use Rattle.rules.specs.Map.{toPositions}
 use Rattle.rules.specs.Walk.{walk, assign}
 use Rattle.invariants.specs.Forms.{variables-few}
 use Rattle.invariants.specs.Floor.{Sub, Fine, Grows, Rooted}
+use Rattle.invariants.specs.Outside.{set-outside}
 use Rattle.invariants.specs.Push.{bind-grows}
 use Rattle.invariants.specs.Narrow.{settled-fine}
 use Rattle.invariants.specs.Places.{Low, positions-low}
@@ -38,6 +39,7 @@ assign-grows R n l r home s f lt nine sub =
     record {
       home₁ = home₁;
       ext = record { grown = le-refl _; kept = λ i k. refl; labels = λ i k. refl; none = λ q a b. absurd (omega arith) };
+      outside = let w = f₁ .within in set-outside R n s₁ u t (omega arith);
       fine = settled-fine R n (s .used) home₁ s₁ u t f₁ (omega arith) (f .since) p₁ (λ q a b i z. e₁ .none q a b i z);
       root = record { below = p₁ .below; term = p₁ .term; up = p₁ .up };
     }

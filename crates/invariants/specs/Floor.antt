@@ -1,11 +1,12 @@
 -- The invariant of the walk. Every record has a label, its home: no record below it in the tree has a lower number than that. A home of 0 says nothing.
 -- In a solution homes are not 0, and for every occurrence q of a solved hole that stands in a solution, q is below the home of that hole's solution.
-use Prim.Native.Nat.{ℕ, _+_, _*_, _<_, _≤_}
+use Prim.Native.Nat.{ℕ, _+_, _-_, _*_, _<_, _≤_}
 use mathlib.Core.Path.{_≡_}
 use mathlib.Core.List.{List, [], _∷_}
 use lib.ListN.{length, getD}
 use Rattle.rules.specs.Words.{NONE, tag, fieldA, fieldB, elements}
 use Rattle.rules.specs.Store.{Store, Out, goes, fails, spent}
+use Rattle.rules.specs.Solve.{filled}
 use Rattle.laws.specs.Lists.{Cell}
 
 -- tag 6 to 9
@@ -78,17 +79,23 @@ pub record Ext (barred : ℕ → Type 0) (home : ℕ → ℕ) (s : Store) (home�
   pub labels : (r : ℕ) → r < s .used → home₁ r ≡ home r
   pub none : (q : ℕ) → s .used ≤ q → q < s₁ .used → tag (s₁ .words) q ≡ 9 → barred (fieldA (s₁ .words) q) → ⊥
 
+-- words left by a part of the machine: nothing has changed outside records n to R and past the first R solutions, so that cleared they are the same
+pub record Outside (R n : ℕ) (s : Store) (ws ss : List ℕ) : Type 0 where
+  pub table : filled (4 * n) (4 * (R - n)) 0 ws ≡ filled (4 * n) (4 * (R - n)) 0 (s .words)
+  pub solutions : filled 0 R NONE ss ≡ filled 0 R NONE (s .solutions)
+
 -- where a part of the machine goes on, its store is fine again, and its result is as said
 pub record Grown {A : Type 0} (barred : ℕ → Type 0) (Q : (ℕ → ℕ) → Store → A → Type 0) (R n : ℕ) (home : ℕ → ℕ) (s s₁ : Store) (x : A) : Type 0 where
   pub home₁ : ℕ → ℕ
   pub ext : Ext barred home s home₁ s₁
+  pub outside : Outside R n s (s₁ .words) (s₁ .solutions)
   pub fine : Fine R n home₁ s₁
   pub root : Q home₁ s₁ x
 
--- a failure is as good as any result, spent fuel is none
+-- a failure leaves what is outside, spent fuel is no result
 abbrev pub Grows : {A : Type 0} → (ℕ → Type 0) → ((ℕ → ℕ) → Store → A → Type 0) → ℕ → ℕ → (ℕ → ℕ) → Store → Out A → Type 0
 Grows barred Q R n home s (goes s₁ x) = Grown barred Q R n home s s₁ x
-Grows barred Q R n home s (fails ws ss e) = Unit {0}
+Grows barred Q R n home s (fails ws ss e) = Outside R n s ws ss
 Grows barred Q R n home s spent = ⊥
 
 -- what is said of a term written, from record b on

@@ -42,7 +42,7 @@ module _ (ws : List ℕ) (n : ℕ) (g : Sound ws n) (few : n ≤ 4096) (held : 4
   listed-at l h = record { top = n; inside = held; few = few; good = cell-at; here = h }
 
   -- a list of the table has at most 16 cells
-  few-cells : (l : ℕ) → l < n → tag ws l ≡ 5 → length (elements ws l) ≤ 16
+  pub few-cells : (l : ℕ) → l < n → tag ws l ≡ 5 → length (elements ws l) ≤ 16
   unfolding keeps listed has elements
   few-cells l lt e = go (either-true _ _ (both-true _ _ (both-true _ _ (g l lt) .1) .0))
     where

@@ -1,6 +1,7 @@
 pub mod Forms  -- the form of a term, by its tag; how many variables an occurrence has
 pub mod Floor  -- the invariant of the walk
 pub mod Grow  -- facts that hold on where the store has grown
+pub mod Outside  -- what is outside stays
 pub mod Push  -- the invariant kept by what is appended
 pub mod Write  -- the invariant kept by lists and terms that are appended
 pub mod Narrow  -- the invariant kept by narrowing and by settling a hole

@@ -12,6 +12,7 @@ use Rattle.rules.specs.Store.{Store, Out, goes, fails, spent, push, pushCells, 
 use Rattle.rules.specs.Walk.{narrow}
 use Rattle.laws.specs.Lists.{Cell, Listed, listed-rest, elements-none, elements-cell}
 use Rattle.invariants.specs.Floor.{Sub, All, limit, Solved, Fine, Ext, Grown, Grows}
+use Rattle.invariants.specs.Outside.{set-outside}
 use Rattle.invariants.specs.Grow.{listed-of, all-map, tag-kept}
 use Rattle.invariants.specs.Push.{ext-trans, bind-grows}
 use Rattle.invariants.specs.Write.{Written, Same, Chain, push-hole, cells-grow, occurrence-grows}
@@ -87,8 +88,8 @@ ext-weaken barred barred′ home s home₁ s₁ w e = record { grown = e .grown;
 
 pub grows-weaken : {A : Type 0} (barred barred′ : ℕ → Type 0) (Q : (ℕ → ℕ) → Store → A → Type 0) (R n : ℕ) (home : ℕ → ℕ) (s : Store) (o : Out A) → ((v : ℕ) → barred v → barred′ v)
     → Grows barred′ Q R n home s o → Grows barred Q R n home s o
-grows-weaken barred barred′ Q R n home s (goes s₁ x) w g = record { home₁ = g .home₁; ext = ext-weaken barred barred′ home s (g .home₁) s₁ w (g .ext); fine = g .fine; root = g .root }
-grows-weaken barred barred′ Q R n home s (fails ws ss e) w g = tt
+grows-weaken barred barred′ Q R n home s (goes s₁ x) w g = record { home₁ = g .home₁; ext = ext-weaken barred barred′ home s (g .home₁) s₁ w (g .ext); outside = g .outside; fine = g .fine; root = g .root }
+grows-weaken barred barred′ Q R n home s (fails ws ss e) w g = g
 grows-weaken barred barred′ Q R n home s spent w g = g
 
 -- a hole that is new and unsolved
@@ -116,6 +117,7 @@ settles R n home s h t x b f lt le nb root no-one ne bx xu four free =
     record {
       home₁ = home;
       ext = record { grown = le-refl _; kept = λ i k. refl; labels = λ r k. refl; none = λ q l k. absurd (omega arith) };
+      outside = let w = f .within in set-outside R n s h t (omega arith);
       fine = settled-fine R n b home s h t f lt nb root no-one;
       root = record { new = bx; below = xu; hole = four; free = getD-set-other (s .solutions) h x t NONE (λ z. ne (sym z)) ∙ free };
     }

@@ -24,6 +24,7 @@ pub record Line (ws : List ℕ) (r : ℕ) : Type 0 where
   pub lam : tag ws r ≡ 6 → Sub ws plain 0 r (fieldA ws r)
   pub app : 7 ≤ tag ws r → tag ws r ≤ 9 → Args ws plain 0 r (fieldB ws r)
   pub cell : tag ws r ≡ 5 → Cell ws r
+  pub item : tag ws r ≡ 5 → Sub ws plain 0 r (fieldA ws r)
 
 -- an output of O records
 pub record Outputs (O : ℕ) (s : Store) : Type 0 where
@@ -90,6 +91,7 @@ line-stays O s s₁ r o e h =
       cell = λ i.
           let c = g .cell (sym t ∙ i) in
           record { elem = rw a (c .elem); rest = rw b (λ q. let x = c .rest q in let x₀ = x .0 in (x₀, tag-kept Nobody 0 0 plain s plain s₁ _ e (omega arith) ∙ x .1)) };
+      item = λ i. rw a (sub-kept Nobody 0 0 plain s plain s₁ 0 r r _ e (omega arith) (le-refl _) (g .item (sym t ∙ i)));
     }
 
 -- one record more
@@ -133,7 +135,7 @@ module _ (O : ℕ) (ss : List ℕ) (s : Store) (o : Outputs O s) (sols : s .solu
       (λ l.
       let t = put-tag (s .words) (s .used) 6 a 0 l in
       let i = put-a (s .words) (s .used) 6 a 0 l in
-      record { lam = λ z. rw i (sub-kept Nobody 0 0 plain s plain (more 6 a 0) 0 (s .used) (s .used) a (more-ext 6 a 0) (le-refl _) (le-refl _) p); app = λ i j. absurd (omega arith); cell = λ i. absurd (omega arith) })
+      record { lam = λ z. rw i (sub-kept Nobody 0 0 plain s plain (more 6 a 0) 0 (s .used) (s .used) a (more-ext 6 a 0) (le-refl _) (le-refl _) p); app = λ i j. absurd (omega arith); cell = λ i. absurd (omega arith); item = λ i. absurd (omega arith) })
       (λ l all. rooted 6 a 0 (omega arith) (omega arith) l)
 
   pub push-applied : (t a c : ℕ) → 7 ≤ t → t ≤ 9 → AList s c → Writes O ss ARoot s (push O t a c s)
@@ -142,7 +144,7 @@ module _ (O : ℕ) (ss : List ℕ) (s : Store) (o : Outputs O s) (sols : s .solu
       (λ l.
       let e = put-tag (s .words) (s .used) t a c l in
       let i = put-b (s .words) (s .used) t a c l in
-      record { lam = λ z. absurd (omega arith); app = λ j k. rw i (args-stay O s (more t a c) (s .used) (s .used) c o (more-ext t a c) (le-refl _) (le-refl _) p); cell = λ z. absurd (omega arith) })
+      record { lam = λ z. absurd (omega arith); app = λ j k. rw i (args-stay O s (more t a c) (s .used) (s .used) c o (more-ext t a c) (le-refl _) (le-refl _) p); cell = λ z. absurd (omega arith); item = λ z. absurd (omega arith) })
       (λ l all. rooted t a c (omega arith) hi l)
 
   pub push-element : (a c : ℕ) → ATerm s a → AList s c → Writes O ss AList s (push O 5 a c s)
@@ -157,6 +159,7 @@ module _ (O : ℕ) (ss : List ℕ) (s : Store) (o : Outputs O s) (sols : s .solu
         lam = λ z. absurd (omega arith);
         app = λ x y. absurd (omega arith);
         cell = λ z. record { elem = rw i pb; rest = rw j (λ ne. let h = q .here ne in let h₀ = h .0 in (h₀, tag-kept Nobody 0 0 plain s plain (more 5 a c) c (more-ext 5 a c) h₀ ∙ h .1)) };
+        item = λ z. rw i (sub-kept Nobody 0 0 plain s plain (more 5 a c) 0 (s .used) (s .used) a (more-ext 5 a c) (le-refl _) (le-refl _) p);
       })
       λ l all.
       let e = put-tag (s .words) (s .used) 5 a c l in

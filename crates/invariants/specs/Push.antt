@@ -13,6 +13,7 @@ use borrow.Author.Tests.{lt-ltb, le-ltb, eq-eqb, ne-eqb}
 use Rattle.rules.specs.Words.{NONE, tag, fieldA, fieldB, elements}
 use Rattle.rules.specs.Store.{Store, Out, goes, fails, spent, fail, _>>=_, put, push}
 use Rattle.invariants.specs.Floor.{Sub, Args, limit, Rule, Solved, Fine, Ext, Grows}
+use Rattle.invariants.specs.Outside.{outside-refl, outside-trans, put-outside}
 use Rattle.invariants.specs.Grow.{solved-at, tag-kept, a-kept, b-kept, term-kept, sub-kept, list-kept, args-below}
 
 -- one label more
@@ -204,8 +205,8 @@ push-grows barred R n t a c b home s f le bar free new = go (decLt (s .used) R)
     go (yes h) =
         let e = pushed-ext barred R n t a c b home s f h bar in
         let p = pushed barred R n t a c b home s f h bar in
-        rw (lt-ltb _ _ h, push) (record { home₁ = labelled home s b; ext = e; fine = fine-new barred R n t a c b home s f h bar free (new (labelled home s b) (added s t a c) e p); root = p })
-    go (no h) = let k : R ≤ s .used = omega arith in rw (le-ltb _ _ k, push) tt
+        rw (lt-ltb _ _ h, push) (record { home₁ = labelled home s b; ext = e; outside = put-outside R n s t a c (f .since) h; fine = fine-new barred R n t a c b home s f h bar free (new (labelled home s b) (added s t a c) e p); root = p })
+    go (no h) = let k : R ≤ s .used = omega arith in rw (le-ltb _ _ k, push) (outside-refl R n s)
 
 -- the next part starts where one has come to
 pub ext-refl : (barred : ℕ → Type 0) (home : ℕ → ℕ) (s : Store) → Ext barred home s home s
@@ -231,14 +232,14 @@ unfolding _>>=_
 bind-grows {B = B} barred P Q R n home s (goes s₁ x) k g f = after (k (s₁, x)) (f (g .home₁) s₁ x (g .ext) (g .fine) (g .root))
   where
     after : (o : Out B) → Grows barred Q R n (g .home₁) s₁ o → Grows barred Q R n home s o
-    after (goes s₂ y) h = record { home₁ = h .home₁; ext = ext-trans barred home s (g .home₁) s₁ (h .home₁) s₂ (g .ext) (h .ext); fine = h .fine; root = h .root }
-    after (fails ws ss e) h = tt
+    after (goes s₂ y) h = record { home₁ = h .home₁; ext = ext-trans barred home s (g .home₁) s₁ (h .home₁) s₂ (g .ext) (h .ext); outside = outside-trans R n s s₁ (s₂ .words) (s₂ .solutions) (g .outside) (h .outside); fine = h .fine; root = h .root }
+    after (fails ws ss e) h = outside-trans R n s s₁ ws ss (g .outside) h
     after spent h = h
-bind-grows {B = B} barred P Q R n home s (fails ws ss e) k g f = tt
+bind-grows {B = B} barred P Q R n home s (fails ws ss e) k g f = g
 bind-grows {B = B} barred P Q R n home s spent k g f = g
 
 pub map-grows : {A : Type 0} (barred : ℕ → Type 0) (P Q : (ℕ → ℕ) → Store → A → Type 0) (R n : ℕ) (home : ℕ → ℕ) (s : Store) (o : Out A) → Grows barred P R n home s o
     → ((home₁ : ℕ → ℕ) (s₁ : Store) (x : A) → Ext barred home s home₁ s₁ → Fine R n home₁ s₁ → P home₁ s₁ x → Q home₁ s₁ x) → Grows barred Q R n home s o
-map-grows barred P Q R n home s (goes s₁ x) g f = record { home₁ = g .home₁; ext = g .ext; fine = g .fine; root = f (g .home₁) s₁ x (g .ext) (g .fine) (g .root) }
-map-grows barred P Q R n home s (fails ws ss e) g f = tt
+map-grows barred P Q R n home s (goes s₁ x) g f = record { home₁ = g .home₁; ext = g .ext; outside = g .outside; fine = g .fine; root = f (g .home₁) s₁ x (g .ext) (g .fine) (g .root) }
+map-grows barred P Q R n home s (fails ws ss e) g f = g
 map-grows barred P Q R n home s spent g f = g

@@ -41,12 +41,12 @@ fine-start R n s ro he fe so si wi good free =
     }
 
 -- what is filled: as long as before, and as before below
-filled-length : (i k x : ℕ) (ws : List ℕ) → i + k ≤ length ws → length (filled i k x ws) ≡ length ws
+pub filled-length : (i k x : ℕ) (ws : List ℕ) → i + k ≤ length ws → length (filled i k x ws) ≡ length ws
 unfolding filled
 filled-length i k x ws h =
     rw (length-append, length-append, length-take-le i ws (omega arith), length-replicate, length-drop) (omega arith)
 
-filled-below : (i k x j : ℕ) (ws : List ℕ) → i ≤ length ws → j < i → getD (filled i k x ws) j 0 ≡ getD ws j 0
+pub filled-below : (i k x j : ℕ) (ws : List ℕ) → i ≤ length ws → j < i → getD (filled i k x ws) j 0 ≡ getD ws j 0
 unfolding filled
 filled-below i k x j ws h lt =
     let l : j < length (take i ws) = rw (length-take-le i ws h) lt in
@@ -56,11 +56,11 @@ filled-first : (k x j d : ℕ) (ws : List ℕ) → j < k → getD (filled 0 k x 
 unfolding filled
 filled-first k x j d ws lt = let l : j < length (replicate k x) = rw (length-replicate k x) lt in List·getD-append (replicate k x) _ d j l ∙ getD-replicate k j x d lt
 
-records-few : (ws : List ℕ) → records ws ≤ 4096
+pub records-few : (ws : List ℕ) → records ws ≤ 4096
 unfolding records
 records-few ws = omega arith
 
-records-room : (ws : List ℕ) → 4 * records ws ≤ length ws
+pub records-room : (ws : List ℕ) → 4 * records ws ≤ length ws
 unfolding records
 records-room ws = omega arith
 

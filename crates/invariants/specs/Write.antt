@@ -9,6 +9,7 @@ use Rattle.rules.specs.Words.{NONE, tag, fieldA, fieldB, elements, CE, VA, HA}
 use Rattle.rules.specs.Store.{Store, Out, goes, push, pushCells, pushVariables, pushOccurrence}
 use Rattle.laws.specs.Lists.{elements-none, elements-cell}
 use Rattle.invariants.specs.Floor.{Sub, All, Args, limit, Rule, Fine, Ext, Grows}
+use Rattle.invariants.specs.Outside.{outside-refl}
 use Rattle.invariants.specs.Grow.{listed-of, all-map, tag-kept, sub-kept, list-kept, args-below, args-kept}
 use Rattle.invariants.specs.Push.{Pushed, new-rule, push-grows, ext-refl, bind-grows, map-grows}
 
@@ -125,7 +126,7 @@ grows-since barred R n b u v home s o ss h g =
     map-grows barred (Same ss (Written b u)) (Same ss (Written b v)) R n home s o g (λ home₁ s₁ x e f p. (record { sub = p .0 .sub; new = omega arith }, p .1))
 
 pub stays : {A : Type 0} (barred : ℕ → Type 0) (Q : (ℕ → ℕ) → Store → A → Type 0) (R n : ℕ) (home : ℕ → ℕ) (s : Store) (x : A) → Fine R n home s → Q home s x → Grows barred Q R n home s (goes s x)
-stays barred Q R n home s x f q = record { home₁ = home; ext = ext-refl barred home s; fine = f; root = q }
+stays barred Q R n home s x f q = record { home₁ = home; ext = ext-refl barred home s; outside = outside-refl R n s; fine = f; root = q }
 
 variables-grow : (barred : ℕ → Type 0) (R n b : ℕ) (vs : List ℕ) (home : ℕ → ℕ) (s : Store) → Fine R n home s → b ≤ s .used → All (λ v. v ≤ limit (s .used)) vs
     → Grows barred (Same (s .solutions) (WrittenList b (length vs))) R n home s (pushVariables R vs s)

@@ -1,3 +1,8 @@
 pub mod Tests  -- what a passed test says
 pub mod Sound  -- a table without a broken record, field by field
 pub mod Lists  -- lists cell by cell
+pub mod Members  -- what every element of a context or of an argument list is
+pub mod Forms  -- the rules of typing and of patterns, form by form
+pub mod Unrolled  -- the same rules without fuel: it never runs out
+pub mod Search  -- a search record by record
+pub mod Places  -- a type, a term, a list of a legal table

@@ -1,5 +1,5 @@
 -- A table of which no record is broken, read field by field: every reference goes to a lower record of the right kind, every rest is like its cell.
-use Prim.Native.Nat.{ℕ, zero, suc, _<_, _≤_}
+use Prim.Native.Nat.{ℕ, _<_, _≤_}
 use mathlib.Core.Path.{_≡_, ap}
 use mathlib.Core.List.{List}
 use mathlib.Core.Bool.{Bool, true, not}
@@ -12,7 +12,7 @@ use borrow.Author.Tests.{ltb-true, leb-true, eqb-true, not-false}
 use Rattle.rules.specs.declared.Found.the-variants.{Nowhere}
 use Rattle.rules.specs.Lists.{both, either}
 use Rattle.rules.specs.Words.{tag, fieldA, fieldB, fieldC, NONE, BT, AR, KO, HO, CE, LA, CA, VA, HA, EQ, has, isType, isTerm, cells}
-use Rattle.rules.specs.Records.{Field, type as a-type, base as a-base, constant as a-constant, hole as a-hole, term as a-term, types as some-types, terms as some-terms, element as an-element, rest as a-rest, small as a-small, never, shapes, shape, listOf, fits, shaped, alike, listed, keeps, broken}
+use Rattle.rules.specs.Records.{Field, type as a-type, base as a-base, constant as a-constant, hole as a-hole, term as a-term, types as some-types, terms as some-terms, element as an-element, rest as a-rest, never, shapes, shape, listOf, fits, shaped, alike, listed, keeps, broken}
 use Rattle.laws.specs.Tests.{false-true, both-true, either-true, lowest-none}
 
 -- every record keeps the rules

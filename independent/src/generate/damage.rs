@@ -63,20 +63,34 @@ fn upward(records: &mut [Record], random: &mut Random) {
 }
 
 /// Two references to one term or list.
-fn second_use(records: &mut [Record], random: &mut Random) {
-    let lists: Vec<u32> = records.iter().filter(|r| [CA, VA, HA].contains(&r.tag)).map(|r| r.b).collect();
+fn second_use(records: &mut Vec<Record>, random: &mut Random) {
     let terms: Vec<u32> = records.iter().filter(|r| r.tag == LA).map(|r| r.a).collect();
-    match random.below(3) {
-        0 => {
-            let list = random.pick(&lists).unwrap_or(NONE);
-            change(records, random, |r| [CA, VA, HA].contains(&r.tag), |r, _| r.b = list);
-        }
-        1 => change(records, random, |r| r.tag == EQ, |r, _| r.b = r.a),
+    match random.below(4) {
+        0 | 1 => list_again(records, random),
+        2 => change(records, random, |r| r.tag == EQ, |r, _| r.b = r.a),
         _ => {
             let term = random.pick(&terms).unwrap_or(0);
             change(records, random, |r| [CE, LA, EQ].contains(&r.tag), |r, _| r.a = term);
         }
     }
+}
+
+/// One more record that refers to a list, by each tag that can.
+fn list_again(records: &mut Vec<Record>, random: &mut Random) {
+    let tag_of = |number: u32| records.get(number as usize).map_or(0, |r| r.tag);
+    let is_term = |cell: &Record| (LA..=HA).contains(&tag_of(cell.a));
+    let cells: Vec<(u32, Record)> =
+        (0..).zip(records.iter().copied()).filter(|(_, record)| record.tag == CE).collect();
+    let Some((list, cell)) = random.pick(&cells) else { return };
+    let first = |tag: u32| records.iter().position(|r| r.tag == tag).unwrap_or(0) as u32;
+    let mut referring = vec![Record::new(HO, list, first(BT), 0), Record::new(CE, first(BT), list, 0)];
+    if is_term(&cell) {
+        let (constant, hole) = (first(KO), first(HO));
+        referring = vec![Record::new(VA, 0, list, 0), Record::new(CA, constant, list, 0)];
+        referring.push(Record::new(HA, hole, list, 0));
+    }
+    referring.truncate(if random.chance(80) { 3 } else { 1 });
+    records.extend(random.pick(&referring));
 }
 
 /// Two type records with equal words.

@@ -1,18 +1,26 @@
 //! The generator: whole problems of all kinds from a seed, the same for the same seed.
 
 pub mod alter;
+pub mod bare;
+pub mod crowd;
 pub mod damage;
 pub mod edges;
 pub mod files;
 pub mod grow;
 pub mod lay;
+pub mod many_types;
 pub mod noise;
 pub mod problem;
+pub mod repeat;
+pub mod short;
 pub mod sketch;
 pub mod typed;
+pub mod wide;
 
 use crate::random::Random;
+use crate::words::Record;
 use problem::{Kind, Made, Problem, Sizes};
+use sketch::Sketch;
 
 /// How large problems may become.
 #[derive(Clone, Copy, Debug, PartialEq, Eq)]
@@ -36,7 +44,7 @@ pub fn problem(seed: u64, index: u64, scale: Scale) -> Problem {
     let mut random = Random::of_pair(seed, index);
     let random = &mut random;
     let small = scale == Scale::Small;
-    match random.below(100) {
+    match random.below(130) {
         0..=44 => {
             let made = typed(random, scale, 0);
             usual_room(Kind::Typed, &made, random, scale)
@@ -53,11 +61,37 @@ pub fn problem(seed: u64, index: u64, scale: Scale) -> Problem {
             let made = some_made(random, scale);
             edges::edge(&made, random, small)
         }
-        _ => {
+        79..=99 => {
             let made = typed(random, scale, 0);
             edges::tight(&made, random, small)
         }
+        choice => aimed(random, scale, choice),
     }
+}
+
+/// Problems aimed at one rule each.
+fn aimed(random: &mut Random, scale: Scale, choice: usize) -> Problem {
+    let small = scale == Scale::Small;
+    let (kind, made) = match choice {
+        100..=104 => {
+            let count = random.between(20, if small { 36 } else { 60 });
+            (Kind::Types, unwitnessed(many_types::many_types(random, count)))
+        }
+        105..=108 => (Kind::Bare, changed(random, scale, small, bare::bare)),
+        109..=112 => (Kind::Bare, changed(random, scale, false, short::shorten)),
+        113..=122 => {
+            let most = if small { 4 } else { 16 };
+            let change = |sketch: &mut Sketch, random: &mut Random| {
+                let width = if random.chance(30) { most } else { random.between(2, most) };
+                repeat::repeat(sketch, random, width);
+            };
+            (Kind::Repeat, changed(random, scale, small, change))
+        }
+        123..=125 => return crowd::crowd(random, small),
+        _ if small || random.chance(40) => (Kind::Lists, unwitnessed(wide::long_list(random))),
+        _ => (Kind::Lists, unwitnessed(lay::lay(&wide::wide(random), random).records)),
+    };
+    usual_room(kind, &made, random, scale)
 }
 
 /// Records of any kind.
@@ -96,9 +130,38 @@ fn damaged(random: &mut Random, scale: Scale) -> Made {
     made
 }
 
+/// A typed problem that is changed before it is laid out; if `alone`, often only its heads stay.
+fn changed(
+    random: &mut Random,
+    scale: Scale,
+    alone: bool,
+    change: impl Fn(&mut Sketch, &mut Random),
+) -> Made {
+    let mut fuel = if scale == Scale::Small { 1 } else { random.between(1, 4) };
+    for _ in 0..12 {
+        let mut sketch = typed::typed(random, fuel, 0);
+        if alone && random.chance(70) {
+            sketch.equations.clear();
+            sketch.holes.clear();
+        }
+        change(&mut sketch, random);
+        let made = lay::lay(&sketch, random);
+        if made.records.len() <= scale.most_records() {
+            return unwitnessed(made.records);
+        }
+        fuel = fuel.saturating_sub(1).max(1);
+    }
+    Made::default()
+}
+
+/// Records without terms that may solve them.
+fn unwitnessed(records: Vec<Record>) -> Made {
+    Made { records, witness: Vec::new() }
+}
+
 fn noisy(random: &mut Random) -> Made {
     let count = random.below(25);
-    Made { records: noise::noise(random, count), witness: Vec::new() }
+    unwitnessed(noise::noise(random, count))
 }
 
 /// Slices in which the problem most often fits.

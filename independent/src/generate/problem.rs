@@ -12,10 +12,26 @@ pub enum Kind {
     Words,
     Edge,
     Tight,
+    Types,
+    Bare,
+    Repeat,
+    Crowd,
+    Lists,
 }
 
 impl Kind {
-    pub const ALL: [Kind; 5] = [Kind::Typed, Kind::Damaged, Kind::Words, Kind::Edge, Kind::Tight];
+    pub const ALL: [Kind; 10] = [
+        Kind::Typed,
+        Kind::Damaged,
+        Kind::Words,
+        Kind::Edge,
+        Kind::Tight,
+        Kind::Types,
+        Kind::Bare,
+        Kind::Repeat,
+        Kind::Crowd,
+        Kind::Lists,
+    ];
 
     pub fn letter(self) -> char {
         match self {
@@ -24,6 +40,11 @@ impl Kind {
             Kind::Words => 'r',
             Kind::Edge => 'e',
             Kind::Tight => 'c',
+            Kind::Types => 'y',
+            Kind::Bare => 'b',
+            Kind::Repeat => 'p',
+            Kind::Crowd => 'm',
+            Kind::Lists => 'l',
         }
     }
 }

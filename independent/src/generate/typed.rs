@@ -4,7 +4,7 @@ use crate::generate::alter::{opened, opened_once, replaced, Graft};
 use crate::generate::grow::{Grower, Habit};
 use crate::generate::sketch::{Equation, Sketch};
 use crate::random::Random;
-use crate::tree::Tree;
+use crate::tree::{Head, Tree};
 
 /// What one equation is made like.
 #[derive(Clone, Copy)]
@@ -97,7 +97,32 @@ fn chain(sketch: &mut Sketch, random: &mut Random, fuel: usize) {
         let equation = closed(sketch, &scope, base, left, right);
         sketch.equations.push(equation);
     }
+    if random.chance(12) {
+        closed_circle(sketch, random, habit);
+    }
     random.shuffle(&mut sketch.equations);
+}
+
+/// True if below its lambdas the term is a hole occurrence.
+fn starts_with_hole(tree: &Tree) -> bool {
+    match tree {
+        Tree::Lambda(body) => starts_with_hole(body),
+        Tree::Apply(head, _) => matches!(head, Head::Hole(_)),
+    }
+}
+
+/// The last hole of a chain stands in the solution of an earlier one.
+fn closed_circle(sketch: &mut Sketch, random: &mut Random, habit: Habit) {
+    let chosen = random.below(sketch.equations.len());
+    let Some(mut equation) = sketch.equations.get(chosen).cloned() else { return };
+    let last = Graft::Hole(sketch.holes.len().saturating_sub(1));
+    let turned = starts_with_hole(&equation.right);
+    let side = if turned { &mut equation.left } else { &mut equation.right };
+    let mut grower = Grower { sketch, random, habit };
+    *side = replaced(&mut grower, &side.clone(), equation.at, &mut Vec::new(), last);
+    if let Some(slot) = sketch.equations.get_mut(chosen) {
+        *slot = equation;
+    }
 }
 
 /// The equation under lambdas for the scope.

@@ -1,0 +1,1 @@
+pub mod Refusals  -- each answer in its place

@@ -1,0 +1,1 @@
+pub mod Order  -- answers 4 to 7 in their order

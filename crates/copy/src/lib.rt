@@ -1,0 +1,139 @@
+// Step 1 of the machine: a side whose head is a solved hole is replaced by a copy of the solution.
+use narrow::push_occurrence;
+use places::Map;
+use places::empty;
+use places::follow;
+use places::place_of;
+use places::to_variables;
+use rules::Failure;
+use rules::Found;
+use store::Walked;
+use store::solution_of;
+use store::then_over;
+use store::then_under;
+use table::CA;
+use table::CE;
+use table::HA;
+use table::Hole;
+use table::LA;
+use table::NONE;
+use table::VA;
+use table::Variable;
+use table::read;
+ghost use mathlib.Core.Path.{_≡_};
+ghost use Prim.Native.Nat.{_+_};
+ghost use Rattle.copy.specs.Copies.{CopiesT, CopiesL};
+ghost use Rattle.copy.specs.Ready.{ReadyT, ReadyL};
+ghost use Rattle.copy.specs.Solution.{headSolution, Heading, Copying, CopiesSolution};
+ghost use Rattle.copy.specs.Expand.{Expanding, Expands};
+
+// A copy of a term, its variables renamed by the map, holes inside it kept as they are.
+fn copy_term(
+    table: &mut [u32],
+    n: u32,
+    used: u32,
+    room: u32,
+    map: Map,
+    depth: u32,
+    at: u32,
+) -> Walked
+    requires { ⌜ ReadyT room n map (now table) used depth at ⌝ }
+    ensures { λ r. ⌜ CopiesT room n map (now (table .entry)) used depth at (now (table .exit)) r ⌝ }
+{
+    let rec = read(table, at);
+    if rec.tag == LA {
+        let body = copy_term(table, n, used, room, map, depth + 1, rec.a);
+        return then_under(table, n, room, LA, 0, body);
+    }
+    if rec.tag == CA {
+        let args = copy_args(table, n, used, room, map, depth, rec.b);
+        return then_over(table, n, room, CA, rec.a, args);
+    }
+    if rec.tag == VA {
+        let Found::At(v) = place_of(map, depth, Variable(rec.a)) else {
+            return Walked::Failed(Failure::Escape);
+        };
+        let args = copy_args(table, n, used, room, map, depth, rec.b);
+        return then_over(table, n, room, VA, v, args);
+    }
+    let kept = follow(table, map, depth, rec.b);
+    push_occurrence(table, n, used, room, Hole(rec.a), kept, false)
+}
+
+// A copy of an argument list: arguments in order, then their cells from last to first.
+fn copy_args(
+    table: &mut [u32],
+    n: u32,
+    used: u32,
+    room: u32,
+    map: Map,
+    depth: u32,
+    list: u32,
+) -> Walked
+    requires { ⌜ ReadyL room n map (now table) used depth list ⌝ }
+    ensures { λ r. ⌜ CopiesL room n map (now (table .entry)) used depth list (now (table .exit)) r ⌝ }
+{
+    if list == NONE {
+        return Walked::Root { root: NONE, used };
+    }
+    let cell = read(table, list);
+    match copy_term(table, n, used, room, map, depth, cell.a) {
+        Walked::Failed(e) => Walked::Failed(e),
+        Walked::Root {
+            root: head,
+            used: then,
+        } => {
+            let rest = copy_args(table, n, then, room, map, depth, cell.b);
+            then_over(table, n, room, CE, head, rest)
+        }
+    }
+}
+
+// The record of the solution of a side's head, or NONE if the head is no solved hole.
+fn head_solution(table: &[u32], solutions: &[u32], at: u32) -> u32
+    requires { ⌜ Heading (now table) (now solutions) at ⌝ }
+    ensures { λ r. ⌜ headSolution (now (table .entry)) (now (solutions .entry)) at ≡ r ⌝ }
+{
+    let rec = read(table, at);
+    if rec.tag == HA {
+        return solution_of(solutions, Hole(rec.a));
+    }
+    NONE
+}
+
+// A copy of a solution, its context variables renamed to the arguments of the occurrence.
+fn copy_solution(table: &mut [u32], n: u32, used: u32, room: u32, at: u32, solution: u32) -> Walked
+    requires { ⌜ Copying room n (now table) used at solution ⌝ }
+    ensures { λ r. ⌜ CopiesSolution room n (now (table .entry)) used at solution (now (table .exit)) r ⌝ }
+{
+    let occ = read(table, at);
+    let map = to_variables(table, occ.b, 0, empty());
+    copy_term(table, n, used, room, map, 0, solution)
+}
+
+// While the side's head is a solved hole, the side is replaced by a copy of the solution.
+pub fn expand(table: &mut [u32], solutions: &[u32], n: u32, used: u32, room: u32, at: u32) -> Walked
+    requires { ⌜ Expanding room n (now table) (now solutions) used at ⌝ }
+    ensures { λ r. ⌜ Expands room n (now (table .entry)) (now (solutions .entry)) used at (now (table .exit)) r ⌝ }
+{
+    let mut side = at;
+    let mut taken = used;
+    loop {
+        let solution = head_solution(table, solutions, side);
+        if solution == NONE {
+            return Walked::Root {
+                root: side,
+                used: taken,
+            };
+        }
+        match copy_solution(table, n, taken, room, side, solution) {
+            Walked::Failed(e) => {
+                return Walked::Failed(e);
+            }
+            Walked::Root { root, used: then } => {
+                side = root;
+                taken = then;
+            }
+        }
+    }
+}

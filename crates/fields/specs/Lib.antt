@@ -1,0 +1,1 @@
+pub mod Kinds  -- the kinds of fields, and tests of tags

@@ -1,0 +1,3 @@
+pub mod Run  -- the run's contract, and what a turn of its loop keeps
+pub mod Start  -- where the run and the machine start
+pub mod Admitted  -- every admitted input is one on which the machine starts

@@ -1,0 +1,80 @@
+-- Where the run and the machine start.
+use Prim.Native.Nat.{ℕ, _+_, _-_, _*_, _<_, _≤_}
+use mathlib.Core.Path.{_≡_, refl, sym, subst}
+use mathlib.Core.List.{List, _∷_}
+use native.Mathlib.Omega.{arith}
+use lib.ListN.{length}
+use borrow.Author.Tests.{le-leb, lt-leb}
+use Rattle.rules.specs.declared.Failure.the-variants.{QueueFull}
+use Rattle.queue.specs.declared.Ring.{Ring}
+use Rattle.queue.specs.declared.Pair.{Pair}
+use Rattle.machine.specs.declared.Ran.{Ran}
+use Rattle.machine.specs.declared.Ran.the-variants.{Solved, Failed}
+use Rattle.rules.specs.Store.{fail, _>>=_}
+use Rattle.rules.specs.Machine.{join, run, steps, equations, machine}
+use Rattle.invariants.specs.Running.{Running}
+use Rattle.invariants.specs.Falls.{steps-more}
+use Rattle.invariants.specs.Turn.{lefts-low}
+use Rattle.store.specs.Said.{store}
+use Rattle.queue.specs.Ring.{Fine, Some, view, view-none, Joins, Leaves, frontOf, left-view, left-fine, noPair}
+use Rattle.queue.specs.Equations.{Entering}
+use Rattle.step.specs.Stand.{Stood}
+use Rattle.machine.specs.Run.{ended, Runs, runs-none}
+
+-- the pairs of the ring wait, and none is in hand
+pub record Set (R n : ℕ) (ws ss : List ℕ) (used : ℕ) (q : List ℕ) (cap : ℕ) (g : Ring) : Type 0 where
+  pub home : ℕ → ℕ
+  pub running : Running R cap n home (store ws ss used) (view q cap g)
+  pub ring : Fine q cap g
+
+module _ (R n : ℕ) (ws ss : List ℕ) (used : ℕ) (q : List ℕ) (cap : ℕ) (g : Ring) where
+  pub set-none : g .count ≡ 0 → Runs R cap (view q cap g) ws ss used ws ss (Solved used)
+  set-none z = runs-none R cap ws ss used (view q cap g) (view-none q cap g z)
+
+  module _ (h : Set R n ws ss used q cap g) (z : g .count ≡ 0 → ⊥) where
+    pub set-some : Some q cap g
+    set-some = record { fine = h .ring; some = omega arith }
+
+    module _ (g₁ : Ring) (v : Leaves cap g g₁) where
+      first : Stood R n ws ss used q cap g₁ (frontOf q g .left) (frontOf q g .right)
+      first = record { home = h .home; running = rw (left-view q cap g g₁ v) at (h .running); ring = left-fine q cap g g₁ set-some v }
+
+      pub set-stood : (f : Pair) → frontOf q g ≡ f → Stood R n ws ss used q cap g₁ (f .left) (f .right)
+      set-stood f e = subst (λ (f : Pair). Stood R n ws ss used q cap g₁ (f .left) (f .right)) e first
+
+      pub set-runs : (f : Pair) (ws₁ ss₁ : List ℕ) (x : Ran) → frontOf q g ≡ f → Runs R cap ((f .left, f .right) ∷ view q cap g₁) ws ss used ws₁ ss₁ x → Runs R cap (view q cap g) ws ss used ws₁ ss₁ x
+      set-runs f ws₁ ss₁ x e p =
+          let k : Runs R cap ((frontOf q g .left, frontOf q g .right) ∷ view q cap g₁) ws ss used ws₁ ss₁ x = subst (λ (f : Pair). Runs R cap ((f .left, f .right) ∷ view q cap g₁) ws ss used ws₁ ss₁ x) (sym e) p in
+          rw (left-view q cap g g₁ v) k
+
+-- a table and solutions as they stand where the machine starts
+pub record Started (R n : ℕ) (ws ss q : List ℕ) (cap : ℕ) : Type 0 where
+  pub inside : 4 * n ≤ length ws
+  pub low : n ≤ 4096
+  pub room : 2 * cap ≤ length q
+  pub few : cap ≤ 1024
+  pub home : ℕ → ℕ
+  pub running : length (equations ws n) ≤ cap → Running R cap n home (store ws ss n) (equations ws n)
+
+module _ (R n : ℕ) (ws ss q : List ℕ) (cap : ℕ) (h : Started R n ws ss q cap) (k : ℕ) (e : length (equations ws n) ≡ k) where
+  pub machine-full : cap < k → machine R cap n (store ws ss n) ≡ ended ws ss (Failed QueueFull)
+  unfolding machine join fail _>>=_
+  machine-full lt = let o : cap < 0 + length (equations ws n) = omega arith in rw (lt-leb _ _ o, join)
+
+  pub started-enters : k ≤ cap → Entering ws q cap n
+  started-enters le = record { inside = h .inside; low = h .low; room = h .room; few = h .few; fits = omega arith }
+
+  module _ (q₁ : List ℕ) (g : Ring) (le : k ≤ cap) (j : Joins q cap noPair (equations ws n) q₁ g) where
+    seen : view q₁ cap g ≡ equations ws n
+    seen = let z = view-none q cap noPair refl in rw z at (j .seen)
+
+    pub started-set : Set R n ws ss n q₁ cap g
+    started-set = record { home = h .home; running = rw seen (h .running (omega arith)); ring = j .fine }
+
+    pub machine-runs : (ws₁ ss₁ : List ℕ) (x : Ran) → Runs R cap (view q₁ cap g) ws ss n ws₁ ss₁ x → machine R cap n (store ws ss n) ≡ ended ws₁ ss₁ x
+    unfolding machine join _>>=_
+    machine-runs ws₁ ss₁ x p =
+        let o : 0 + length (equations ws n) ≤ cap = omega arith in
+        let ru = h .running (omega arith) in
+        let p₁ : Runs R cap (equations ws n) ws ss n ws₁ ss₁ x = rw seen at p in
+        rw (le-leb _ _ o, join) (p₁ .run (steps R cap) (steps-more R cap n (equations ws n) (ru .few) (lefts-low R cap n (h .home) (store ws ss n) (equations ws n) ru)))

@@ -1,0 +1,114 @@
+-- Narrowing a hole, and keeping the arguments that have a place.
+use Prim.Native.Nat.{ℕ, _+_, _-_, _*_, _<_, _≤_}
+use mathlib.Core.Path.{_≡_, sym, _∙_}
+use mathlib.Core.List.{List}
+use mathlib.Core.Bool.{true, false}
+use native.Mathlib.Omega.{arith}
+use lib.ListN.{length, set}
+use borrow.Author.Tests.{eq-eqb, ne-eqb}
+use Rattle.rules.specs.declared.Failure.{Failure}
+use Rattle.store.specs.declared.Walked.{Walked}
+use Rattle.store.specs.declared.Walked.the-variants.{Root, Failed}
+use Rattle.table.specs.declared.Record.{Record}
+use Rattle.places.specs.declared.Map.{Map}
+use Rattle.table.specs.Reading.{IsRecord}
+use Rattle.rules.specs.Words.{fieldA, fieldB}
+use Rattle.rules.specs.Store.{Store, Out, goes, _>>=_, pushCells, pushOccurrence, settle}
+use Rattle.rules.specs.Walk.{narrow, keepPlaced}
+use Rattle.laws.specs.Lists.{Listed}
+use Rattle.store.specs.Said.{store, shown, Since, since-root, since-failed, Does, Then, Does², Then², under, bind-assoc}
+use Rattle.places.specs.Maps.{mapOf, mapOf-length, Whole, side, sideFrom, side-start}
+use Rattle.narrow.specs.Writing.{Writing}
+use Rattle.narrow.specs.Context.{contexts}
+
+-- what follows the new hole: its occurrence at the kept positions is the old hole's solution
+abbrev pub settling : ℕ → ℕ → List ℕ → Store × ℕ → Out ℕ
+settling R h ks = λ (s₂, new). pushOccurrence R new ks s₂ >>= λ (s₃, t). goes (settle h t s₃) new
+
+module _ (R n h : ℕ) (ks : List ℕ) (ws ss : List ℕ) (w : Walked) (new u : ℕ) (ws₁ : List ℕ) (x : Walked) where
+  pub settle-stops : (e : Failure) → w ≡ Root new u → Does n (pushOccurrence R new ks) ws u ws₁ x → x ≡ Failed e → Then² n (settling R h ks) ws ss w ws₁ ss (Failed e)
+  unfolding _>>=_
+  settle-stops e p q z = record { run = rw (p, q .run ss, z); grown = since-failed _ _ }
+
+  pub settle-goes : (t u₁ : ℕ) → w ≡ Root new u → Does n (pushOccurrence R new ks) ws u ws₁ x → x ≡ Root t u₁ → Then² n (settling R h ks) ws ss w ws₁ (set ss h t) (Root new u₁)
+  unfolding _>>=_ settle
+  settle-goes t u₁ p q z = record { run = rw (p, q .run ss, z); grown = since-root _ _ _ (q .grown .since t u₁ z) }
+
+pub narrow-goes : (R n h : ℕ) (m : Map) (ws ss : List ℕ) (u : ℕ) (w : Record) (ws₁ : List ℕ) (x₁ : Walked) (ws₂ : List ℕ) (x₂ : Walked) (ws₃ ss₃ : List ℕ) (x₃ : Walked)
+    → IsRecord ws h w → Does n (pushCells R (contexts ws (w .a) (sideFrom true m 0))) ws u ws₁ x₁ → Then n (under R 4 (w .b)) ws₁ x₁ ws₂ x₂
+    → Then² n (settling R h (side true (mapOf m))) ws₂ ss x₂ ws₃ ss₃ x₃ → Does² n (narrow R h (side true (mapOf m))) ws ss u ws₃ ss₃ x₃
+unfolding narrow
+narrow-goes R n h m ws ss u w ws₁ x₁ ws₂ x₂ ws₃ ss₃ x₃ e p q r =
+    let p₁ : pushCells R (contexts ws (fieldA ws h) (side true (mapOf m))) (store ws ss u) ≡ shown ws₁ ss x₁ = rw (← side-start true m, ← e .a-is) (p .run ss) in
+    let q₁ : (shown ws₁ ss x₁ >>= under R 4 (fieldB ws h)) ≡ shown ws₂ ss x₂ = rw (← e .b-is) (q .run ss) in
+    record {
+      run = bind-assoc _ (under R 4 (fieldB ws h)) (settling R h (side true (mapOf m))) ∙ rw (p₁, q₁) (r .run);
+      grown = r .grown;
+    }
+
+-- an occurrence of the hole that came out
+abbrev pub occurring : ℕ → List ℕ → Store × ℕ → Out ℕ
+occurring R vs = λ (s, new). pushOccurrence R new vs s
+
+pub occurring-goes : (R n : ℕ) (vs : List ℕ) (ws : List ℕ) (w : Walked) (h u : ℕ) (ws₁ : List ℕ) (x : Walked)
+    → w ≡ Root h u → Does n (pushOccurrence R h vs) ws u ws₁ x → Then n (occurring R vs) ws w ws₁ x
+unfolding _>>=_
+occurring-goes R n vs ws w h u ws₁ x e p = record { run = λ ss. rw e (p .run ss); grown = p .grown }
+
+module _ (R n h k : ℕ) (m : Map) (ws ss : List ℕ) (u : ℕ) where
+  pub keep-all : (ws₁ : List ℕ) (x : Walked) → m .len ≡ k → Does n (pushOccurrence R h (side false (mapOf m))) ws u ws₁ x → Does² n (keepPlaced R h k (mapOf m)) ws ss u ws₁ ss x
+  unfolding keepPlaced side
+  keep-all ws₁ x e p = record { run = rw (eq-eqb _ _ (mapOf-length m ∙ e), keepPlaced) (p .run ss); grown = p .grown }
+
+  pub keep-some : (ws₁ ss₁ : List ℕ) (x : Walked) (ws₂ : List ℕ) (y : Walked) → (m .len ≡ k → ⊥) → Does² n (narrow R h (side true (mapOf m))) ws ss u ws₁ ss₁ x
+      → Then n (occurring R (side false (mapOf m))) ws₁ x ws₂ y → Does² n (keepPlaced R h k (mapOf m)) ws ss u ws₂ ss₁ y
+  unfolding keepPlaced side
+  keep-some ws₁ ss₁ x ws₂ y ne p q =
+      let f : length (mapOf m) ≡ k → ⊥ = λ z. ne (sym (mapOf-length m) ∙ z) in
+      record { run = rw (ne-eqb _ _ f, keepPlaced, p .run) (q .run ss₁); grown = q .grown }
+
+-- what settling asks, and an occurrence after an answer
+pub record Settling (ws ss : List ℕ) (n R h : ℕ) (m : Map) (x : Walked) : Type 0 where
+  pub room : 4 * R ≤ length ws
+  pub whole : Whole m
+  pub held : h < length ss
+  pub since : Since n x
+
+pub settling-writes : (ws ss : List ℕ) (n R h : ℕ) (m : Map) (x : Walked) (r u : ℕ) → Settling ws ss n R h m x → x ≡ Root r u → Writing ws n u R m 0
+settling-writes ws ss n R h m x r u p e = record { room = p .room; since = p .since .since r u e; whole = p .whole; at = omega arith }
+
+pub record Occurring (ws : List ℕ) (n R : ℕ) (m : Map) (x : Walked) : Type 0 where
+  pub room : 4 * R ≤ length ws
+  pub whole : Whole m
+  pub since : Since n x
+
+pub occurring-writes : (ws : List ℕ) (n R : ℕ) (m : Map) (x : Walked) (r u : ℕ) → Occurring ws n R m x → x ≡ Root r u → Writing ws n u R m 0
+occurring-writes ws n R m x r u p e = record { room = p .room; since = p .since .since r u e; whole = p .whole; at = omega arith }
+
+-- what narrowing asks
+pub record Narrowing (ws ss : List ℕ) (n u R h : ℕ) (m : Map) : Type 0 where
+  pub room : 4 * R ≤ length ws
+  pub since : n ≤ u
+  pub whole : Whole m
+  pub hole : 4 * h + 3 < length ws
+  pub held : h < length ss
+  pub context : Listed ws (fieldA ws h)
+
+module _ (ws ss : List ℕ) (n u R h : ℕ) (m : Map) where
+  pub narrowing-read : Narrowing ws ss n u R h m → 4 * h + 3 < length ws
+  narrowing-read p = p .hole
+
+  pub narrowing-writes : Narrowing ws ss n u R h m → Writing ws n u R m 0
+  narrowing-writes p = record { room = p .room; since = p .since; whole = p .whole; at = omega arith }
+
+  pub narrowing-list : (w : Record) → Narrowing ws ss n u R h m → IsRecord ws h w → Listed ws (w .a)
+  narrowing-list w p e = rw (e .a-is) (p .context)
+
+  pub narrowing-room : (ws₁ : List ℕ) → Narrowing ws ss n u R h m → length ws₁ ≡ length ws → 4 * R ≤ length ws₁
+  narrowing-room ws₁ p e = let g = p .room in omega arith
+
+  pub narrowing-settles : (ws₁ ws₂ : List ℕ) (x : Walked) → Narrowing ws ss n u R h m → length ws₁ ≡ length ws → length ws₂ ≡ length ws₁ → Since n x → Settling ws₂ ss n R h m x
+  narrowing-settles ws₁ ws₂ x p e f s = let g = p .room in record { room = omega arith; whole = p .whole; held = p .held; since = s }
+
+  pub narrowing-occurs : (ws₁ : List ℕ) (x : Walked) → Narrowing ws ss n u R h m → length ws₁ ≡ length ws → Since n x → Occurring ws₁ n R m x
+  narrowing-occurs ws₁ x p e s = let g = p .room in record { room = omega arith; whole = p .whole; since = s }

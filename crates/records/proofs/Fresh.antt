@@ -1,0 +1,109 @@
+-- References are the first, one after the other: none is used by a lower record, and none comes twice.
+use Prim.Native.Nat.{ℕ, zero, suc, _+_}
+use mathlib.Core.Path.{_≡_, refl, sym, ap, _∙_}
+use mathlib.Core.Bool.{Bool, true, false, not}
+use mathlib.Core.List.{List, [], _∷_, _++_}
+use native.Mathlib.Numerals.{add-one}
+use native.Mathlib.Decide.{ℕ-discrete}
+use borrow.Author.Tests.{eq-eqb, ne-eqb}
+use lib.Dec.{eqb}
+use Rattle.rules.specs.Lists.{both, either, all, any, among, distinct, from, below}
+use Rattle.rules.specs.Records.{uses, first-use}
+use Rattle.records.specs.Marks.{used, fresh, one}
+use Rattle.records.proofs.Earlier.{below-more}
+
+-- Lists and tests
+
+all-same : (f g : ℕ → Bool) → ((x : ℕ) → f x ≡ g x) → (xs : List ℕ) → all f xs ≡ all g xs
+unfolding all
+all-same f g h [] = refl
+all-same f g h (x ∷ xs) = rw (h x, all-same f g h xs)
+
+both-last : (a b c : Bool) → both (both a b) c ≡ both a (both b c)
+unfolding both
+both-last true b c = refl
+both-last false b c = refl
+
+all-append : (ok : ℕ → Bool) (xs ys : List ℕ) → all ok (xs ++ ys) ≡ both (all ok xs) (all ok ys)
+unfolding all
+all-append ok [] ys = unfold both in refl
+all-append ok (x ∷ xs) ys = rw (all-append ok xs ys) (sym (both-last (ok x) (all ok xs) (all ok ys)))
+
+pub among-append : (xs ys : List ℕ) (v : ℕ) → among (xs ++ ys) v ≡ either (among xs v) (among ys v)
+unfolding among any
+among-append [] ys v = unfold either in refl
+among-append (x ∷ xs) ys v = rw (among-append xs ys v) (sym (last (eqb x v) (any (λ y. eqb y v) xs) (any (λ y. eqb y v) ys)))
+  where
+    last : (a b c : Bool) → either (either a b) c ≡ either a (either b c)
+    last true b c = unfold either in refl
+    last false b c = unfold either in refl
+
+all-both : (f g : ℕ → Bool) (xs : List ℕ) → all (λ y. both (f y) (g y)) xs ≡ both (all f xs) (all g xs)
+unfolding all
+all-both f g [] = unfold both in refl
+all-both f g (x ∷ xs) = rw (all-both f g xs) (swap (f x) (g x) (all f xs) (all g xs))
+  where
+    swap : (a b c d : Bool) → both (both a b) (both c d) ≡ both (both a c) (both b d)
+    swap true true c d = unfold both in refl
+    swap true false true d = unfold both in refl
+    swap true false false d = unfold both in refl
+    swap false b c d = unfold both in refl
+
+eqb-sym : (x y : ℕ) → eqb x y ≡ eqb y x
+eqb-sym x y = go (ℕ-discrete x y)
+  where
+    go : Dec (x ≡ y) → eqb x y ≡ eqb y x
+    go (yes e) = eq-eqb x y e ∙ sym (eq-eqb y x (sym e))
+    go (no e) = ne-eqb x y e ∙ sym (ne-eqb y x (λ q. e (sym q)))
+
+not-either : (a b : Bool) → not (either a b) ≡ both (not a) (not b)
+unfolding either both
+not-either true b = refl
+not-either false b = refl
+
+none-is : (x : ℕ) (xs : List ℕ) → all (λ y. not (eqb x y)) xs ≡ not (among xs x)
+unfolding all among any
+none-is x [] = refl
+none-is x (y ∷ ys) = rw (eqb-sym x y, none-is x ys) (sym (not-either (eqb y x) (any (λ z. eqb z x) ys)))
+
+-- None is used before, and none comes twice
+
+fresh-is : (xs u : List ℕ) → fresh u xs ≡ both (distinct xs) (all (λ x. not (among u x)) xs)
+unfolding fresh distinct all
+fresh-is [] u = unfold both in refl
+fresh-is (x ∷ xs) u =
+    rw (fresh-is xs (x ∷ u), parted) (shuffle (not (among u x)) (distinct xs) (not (among xs x)) (all (λ y. not (among u y)) xs))
+  where
+    parted : all (λ y. not (among (x ∷ u) y)) xs ≡ both (not (among xs x)) (all (λ y. not (among u y)) xs)
+    parted =
+        all-same (λ y. not (among (x ∷ u) y)) (λ y. both (not (eqb x y)) (not (among u y))) (λ y. unfold among in unfold any in not-either (eqb x y) (any (λ z. eqb z y) u)) xs ∙
+        all-both (λ y. not (eqb x y)) (λ y. not (among u y)) xs ∙
+        ap (λ b. both b (all (λ y. not (among u y)) xs)) (none-is x xs)
+
+    shuffle : (a d n r : Bool) → both a (both d (both n r)) ≡ both (both n d) (both a r)
+    shuffle true true true r = unfold both in refl
+    shuffle true true false r = unfold both in refl
+    shuffle true false true r = unfold both in refl
+    shuffle true false false r = unfold both in refl
+    shuffle false true true r = unfold both in refl
+    shuffle false true false r = unfold both in refl
+    shuffle false false true r = unfold both in refl
+    shuffle false false false r = unfold both in refl
+
+unused : (ws : List ℕ) (r x : ℕ) → all (λ j. not (among (uses ws j) x)) (below r) ≡ not (among (used ws r) x)
+unfolding used any all from
+unused ws zero x = unfold below in unfold among in refl
+unused ws (suc r) x =
+    rw (← add-one r, below-more r, all-append (λ j. not (among (uses ws j) x)) (below r) (r ∷ []), unused ws r x, among-append (uses ws r) (used ws r) x, not-either (among (uses ws r) x) (among (used ws r) x))
+    (turn (not (among (used ws r) x)) (not (among (uses ws r) x)))
+  where
+    turn : (a b : Bool) → both a (both b true) ≡ both b a
+    turn true true = unfold both in refl
+    turn true false = unfold both in refl
+    turn false true = unfold both in refl
+    turn false false = unfold both in refl
+
+pub first-use-is : (ws : List ℕ) (r : ℕ) → first-use ws r ≡ fresh (used ws r) (uses ws r)
+unfolding first-use
+first-use-is ws r =
+    ap (both (distinct (uses ws r))) (all-same _ _ (λ x. unused ws r x) (uses ws r)) ∙ sym (fresh-is (uses ws r) (used ws r))

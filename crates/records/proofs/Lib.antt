@@ -1,0 +1,5 @@
+pub mod Lengths  -- lists are short and not mixed
+pub mod Earlier  -- types are new
+pub mod Fresh  -- references one after the other
+pub mod Uses  -- references are the first
+pub mod Passing  -- a record keeps the rules, and the next is looked at

@@ -1,0 +1,1 @@
+pub mod Marks  -- what the marks mean

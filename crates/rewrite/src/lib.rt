@@ -1,0 +1,1 @@
+// Laws of terms written anew, which copying and walking share. No function.

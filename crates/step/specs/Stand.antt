@@ -1,0 +1,99 @@
+-- The pair in hand where two sides meet whose heads are no solved holes.
+use Prim.Native.Nat.{ℕ, _-_, _≤_}
+use mathlib.Core.Path.{_≡_, ap, _∙_}
+use mathlib.Core.List.{List, _∷_}
+use native.Mathlib.Omega.{arith}
+use Rattle.rules.specs.declared.Failure.the-variants.{Clash as Clashes}
+use Rattle.store.specs.declared.Walked.{Walked}
+use Rattle.queue.specs.declared.Ring.{Ring}
+use Rattle.step.specs.declared.Step.{Step}
+use Rattle.step.specs.declared.Step.the-variants.{On, Failed as Fell}
+use Rattle.step.specs.declared.Meeting.{Meeting}
+use Rattle.step.specs.declared.Meeting.the-variants.{Bodies, Arguments, SameHole, LeftHole, RightHole, Clash}
+use Rattle.rules.specs.Words.{tag, fieldB}
+use Rattle.rules.specs.Store.{fail}
+use Rattle.rules.specs.Walk.{assign}
+use Rattle.rules.specs.Machine.{meet}
+use Rattle.invariants.specs.Floor.{Sub, Fine}
+use Rattle.invariants.specs.Running.{Running}
+use Rattle.store.specs.Said.{store, Does²}
+use Rattle.rewrite.specs.Parts.{term-read, counts-of}
+use Rattle.walk.specs.Assign.{Assigning}
+use Rattle.queue.specs.Ring.{view, Fine as Ringed}
+use Rattle.step.specs.Said.{Steps, ThenFinishes, quiet-rings, failed-rings, on-rings}
+use Rattle.step.specs.Meets.{Terms, MeetsAs, FactOf, meetAs}
+use Rattle.step.specs.Arguments.{Arguing, Argues}
+use Rattle.step.specs.Same.{SameReady, SameDone}
+
+-- the pair (l, r) is in hand while those of the ring wait
+pub record Stood (R n : ℕ) (ws ss : List ℕ) (used : ℕ) (q : List ℕ) (cap : ℕ) (g : Ring) (l r : ℕ) : Type 0 where
+  pub home : ℕ → ℕ
+  pub running : Running R cap n home (store ws ss used) ((l, r) ∷ view q cap g)
+  pub ring : Ringed q cap g
+
+pub fine-of : (R n : ℕ) (ws ss : List ℕ) (used : ℕ) (q : List ℕ) (cap : ℕ) (g : Ring) (l r : ℕ) (h : Stood R n ws ss used q cap g l r) → Fine R n (h .home) (store ws ss used)
+fine-of R n ws ss used q cap g l r h = h .running .fine (h .running .some (omega arith))
+
+module _ (R n : ℕ) (ws ss : List ℕ) (used : ℕ) (q : List ℕ) (cap : ℕ) (g : Ring) (l r : ℕ) (h : Stood R n ws ss used q cap g l r) where
+  fine : Fine R n (h .home) (store ws ss used)
+  fine = fine-of R n ws ss used q cap g l r h
+
+  left : Sub ws (h .home) 0 used l
+  left = h .running .sides .0 .left
+
+  right : Sub ws (h .home) 0 used r
+  right = h .running .sides .0 .right
+
+  pub stood-terms : Terms ws l r
+  stood-terms =
+      record { inside-left = term-read R n (h .home) ws ss used 0 l fine left; inside-right = term-read R n (h .home) ws ss used 0 r fine right; left = left .term; right = right .term }
+
+  module _ (k : Meeting) (m : MeetsAs ws l r k) where
+    abbrev Met : List ℕ → List ℕ → List ℕ → Step → Type 0
+    Met ws₁ ss₁ q₁ x = Steps cap (meet R cap (view q cap g) l r) ws ss used q ws₁ ss₁ q₁ x
+
+    meets-so : (k₁ : Meeting) → k ≡ k₁ → meet R cap (view q cap g) l r (store ws ss used) ≡ meetAs k₁ R cap (view q cap g) l r (store ws ss used)
+    meets-so k₁ e = m .run R cap (view q cap g) ss used ∙ ap (λ (j : Meeting). meetAs j R cap (view q cap g) l r (store ws ss used)) e
+
+    known : (k₁ : Meeting) → k ≡ k₁ → FactOf ws l r k₁
+    known k₁ e = rw e at (m .fact)
+
+    -- 2
+    pub met-bodies : (a b : ℕ) → k ≡ Bodies a b → Met ws ss q (On a b used)
+    met-bodies a b e = record { said = meets-so (Bodies a b) e; rings = on-rings cap q a b used }
+
+    -- 3
+    pub stood-argues : (a b : ℕ) → k ≡ Arguments a b → Arguing ws q cap g a b
+    stood-argues a b e =
+        let f : (7 ≤ tag ws l) × (7 ≤ tag ws r) × (a ≡ fieldB ws l) × (b ≡ fieldB ws r) = known (Arguments a b) e in
+        rw (f .2, f .3) (record { both = record { left = counts-of R n (h .home) ws ss used 0 l fine left (f .0); right = counts-of R n (h .home) ws ss used 0 r fine right (f .1) .list }; fine = h .ring })
+
+    pub met-arguments : (a b : ℕ) (q₁ : List ℕ) (x : Step) → k ≡ Arguments a b → Argues ws q cap g used a b q₁ x → Met ws ss q₁ x
+    met-arguments a b q₁ x e p = record { said = meets-so (Arguments a b) e ∙ p .said ss; rings = p .rings }
+
+    -- 4
+    pub stood-same : k ≡ SameHole → SameReady R n ws ss used l r
+    stood-same e =
+        let f : (tag ws l ≡ 9) × (tag ws r ≡ 9) = known SameHole e in
+        record { home = h .home; fine = fine; left = left; right = right; nine-left = f .0; nine-right = f .1 }
+
+    pub met-same : (ws₁ ss₁ : List ℕ) (x : Step) → k ≡ SameHole → SameDone g R l r ws ss used ws₁ ss₁ x → Met ws₁ ss₁ q x
+    met-same ws₁ ss₁ x e p = record { said = meets-so SameHole e ∙ p .said q cap; rings = quiet-rings cap q g x (h .ring) (p .quiet) }
+
+    -- 5
+    pub stood-left : k ≡ LeftHole → Assigning R n ws ss used l r
+    stood-left e = record { home = h .home; fine = fine; left = left; occ = known LeftHole e; right = right }
+
+    pub stood-right : k ≡ RightHole → Assigning R n ws ss used r l
+    stood-right e = record { home = h .home; fine = fine; left = right; occ = known RightHole e; right = left }
+
+    module _ (ws₁ ss₁ : List ℕ) (w : Walked) (x : Step) (f : ThenFinishes g w x) where
+      pub met-left : k ≡ LeftHole → Does² n (assign R l r) ws ss used ws₁ ss₁ w → Met ws₁ ss₁ q x
+      met-left e p = record { said = meets-so LeftHole e ∙ rw (p .run) (f .said ws₁ ss₁ q cap); rings = quiet-rings cap q g x (h .ring) (f .quiet) }
+
+      pub met-right : k ≡ RightHole → Does² n (assign R r l) ws ss used ws₁ ss₁ w → Met ws₁ ss₁ q x
+      met-right e p = record { said = meets-so RightHole e ∙ rw (p .run) (f .said ws₁ ss₁ q cap); rings = quiet-rings cap q g x (h .ring) (f .quiet) }
+
+    pub met-clash : k ≡ Clash → Met ws ss q (Fell Clashes)
+    unfolding fail
+    met-clash e = record { said = meets-so Clash e; rings = failed-rings cap q q Clashes }

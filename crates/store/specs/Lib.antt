@@ -1,0 +1,3 @@
+pub mod Said  -- what the code's answers say, over the rules
+pub mod Part  -- a write in a part is a write in the whole
+pub mod Push  -- a record appended, alone or after an answer

@@ -1,0 +1,75 @@
+// What the machine writes: records from the first unused number on, through the part that starts at record n, and what a part of it answers.
+use rules::Failure;
+use table::Hole;
+ghost use mathlib.Core.Path.{_≡_};
+ghost use Prim.Native.Nat.{_+_, _*_, _<_, _≤_};
+ghost use lib.ListN.{length, getD};
+ghost use Rattle.rules.specs.Store.{put as putAt, push as pushOf};
+ghost use Rattle.store.specs.Said.{Since, Does, Then, over, under};
+
+// What a part of the machine answers: the record that it wrote and the records used, or the failure.
+pub enum Walked {
+    Root { root: u32, used: u32 },
+    Failed(Failure),
+}
+
+// Four words at the k-th record of a part.
+fn put(part: &mut [u32], k: usize, tag: u32, a: u32, b: u32)
+    requires { ⌜ 4 * k + 3 < length (now part) ⌝ }
+    ensures { λ _. ⌜ putAt (now (part .entry)) k tag a b ≡ now (part .exit) ⌝ }
+{
+    let i = 4 * k;
+    part[i] = tag;
+    part[i + 1] = a;
+    part[i + 2] = b;
+    part[i + 3] = 0;
+}
+
+// A record is appended, in the part that starts at record n; table full is met at the first record that has no number.
+pub fn push(table: &mut [u32], n: u32, used: u32, room: u32, tag: u32, a: u32, b: u32) -> Walked
+    requires { ⌜ (4 * room ≤ length (now table)) × (n ≤ used) ⌝ }
+    ensures { λ r. ⌜ Does n (pushOf room tag a b) (now (table .entry)) used (now (table .exit)) r ⌝ }
+{
+    if used < room {
+        let from = 4 * (n as usize);
+        let k = (used - n) as usize;
+        put(&mut table[from..], k, tag, a, b);
+        Walked::Root {
+            root: used,
+            used: used + 1,
+        }
+    } else {
+        Walked::Failed(Failure::TableFull)
+    }
+}
+
+// A record whose b is what was written, or the failure.
+pub fn then_over(table: &mut [u32], n: u32, room: u32, tag: u32, a: u32, walked: Walked) -> Walked
+    requires { ⌜ (4 * room ≤ length (now table)) × Since n walked ⌝ }
+    ensures { λ r. ⌜ Then n (over room tag a) (now (table .entry)) walked (now (table .exit)) r ⌝ }
+{
+    match walked {
+        Walked::Failed(e) => Walked::Failed(e),
+        Walked::Root { root, used } => push(table, n, used, room, tag, a, root),
+    }
+}
+
+// A record whose a is what was written, or the failure.
+pub fn then_under(table: &mut [u32], n: u32, room: u32, tag: u32, b: u32, walked: Walked) -> Walked
+    requires { ⌜ (4 * room ≤ length (now table)) × Since n walked ⌝ }
+    ensures { λ r. ⌜ Then n (under room tag b) (now (table .entry)) walked (now (table .exit)) r ⌝ }
+{
+    match walked {
+        Walked::Failed(e) => Walked::Failed(e),
+        Walked::Root { root, used } => push(table, n, used, room, tag, root, b),
+    }
+}
+
+// The record of a hole's solution, or NONE.
+pub fn solution_of(solutions: &[u32], hole: Hole) -> u32
+    requires { ⌜ hole .0 < length (now solutions) ⌝ }
+    ensures { λ r. ⌜ getD (now (solutions .entry)) (hole .0) 4294967295 ≡ r ⌝ }
+{
+    let h = hole.0 as usize;
+    solutions[h]
+}

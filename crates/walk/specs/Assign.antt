@@ -1,0 +1,89 @@
+-- Step 5: the map that the walk starts with, and the solution recorded.
+use Prim.Native.Nat.{ℕ, _+_, _-_, _*_, _<_}
+use mathlib.Core.Path.{_≡_, sym}
+use mathlib.Core.List.{List}
+use native.Mathlib.Omega.{arith}
+use lib.ListN.{length, set}
+use Rattle.rules.specs.declared.Failure.{Failure}
+use Rattle.store.specs.declared.Walked.{Walked}
+use Rattle.store.specs.declared.Walked.the-variants.{Root, Failed}
+use Rattle.table.specs.declared.Record.{Record}
+use Rattle.table.specs.Reading.{IsRecord}
+use Rattle.places.specs.declared.Map.{Map}
+use Rattle.rules.specs.Lists.{enough}
+use Rattle.rules.specs.Words.{tag, fieldA, arguments, variables}
+use Rattle.rules.specs.Store.{Store, Out, goes, settle, _>>=_}
+use Rattle.rules.specs.Map.{toPositions}
+use Rattle.rules.specs.Walk.{walk, assign}
+use Rattle.invariants.specs.Floor.{Sub, Fine}
+use Rattle.invariants.specs.Assign.{start-low}
+use Rattle.store.specs.Said.{Does², store, shown}
+use Rattle.places.specs.Maps.{mapOf, noPlace}
+use Rattle.places.specs.Numbered.{Numbering, Numbered, positions, numbering-none, positions-none}
+use Rattle.rewrite.specs.Parts.{term-read, counts-at, hole-held}
+use Rattle.walk.specs.Walks.{WalksT}
+use Rattle.walk.specs.Ready.{ReadyT}
+
+-- what step 5 asks: an occurrence on the left, a term on the right
+pub record Assigning (R n : ℕ) (ws ss : List ℕ) (used l r : ℕ) : Type 0 where
+  pub home : ℕ → ℕ
+  pub fine : Fine R n home (store ws ss used)
+  pub left : Sub ws home 0 used l
+  pub occ : tag ws l ≡ 9
+  pub right : Sub ws home 0 used r
+
+-- what follows the walk
+abbrev pub recording : ℕ → Store × ℕ → Out ℕ
+recording h = λ (s, t). goes (settle h t s) t
+
+pub record Records (h : ℕ) (ss : List ℕ) (w : Walked) (ss₁ : List ℕ) (x : Walked) : Type 0 where
+  pub run : (ws : List ℕ) → (shown ws ss w >>= recording h) ≡ shown ws ss₁ x
+  pub same : x ≡ w
+
+pub records-stops : (h : ℕ) (ss : List ℕ) (w : Walked) (e : Failure) → w ≡ Failed e → Records h ss w ss (Failed e)
+unfolding _>>=_
+records-stops h ss w e p = record { run = λ ws. rw p; same = sym p }
+
+pub records-goes : (h : ℕ) (ss : List ℕ) (w : Walked) (t u : ℕ) → w ≡ Root t u → Records h ss w (set ss h t) (Root t u)
+unfolding _>>=_ settle
+records-goes h ss w t u p = record { run = λ ws. rw p; same = sym p }
+
+module _ {R n : ℕ} {ws ss : List ℕ} {used l r : ℕ} where
+  pub assign-read : Assigning R n ws ss used l r → 4 * l + 3 < length ws
+  assign-read h = term-read R n (h .home) ws ss used 0 l (h .fine) (h .left)
+
+  pub assign-places : (w : Record) (acc : Map) → IsRecord ws l w → Assigning R n ws ss used l r → noPlace ≡ acc → Numbering ws (w .b) 0 acc
+  assign-places w acc e h q = numbering-none ws (w .b) acc (counts-at R n (h .home) ws ss used 0 l (h .fine) (h .left) w e (h .occ)) q
+
+  placed : (w : Record) (acc m : Map) → IsRecord ws l w → noPlace ≡ acc → Numbered positions ws (w .b) 0 acc m → Assigning R n ws ss used l r → mapOf m ≡ toPositions 0 (variables ws l)
+  unfolding variables arguments
+  placed w acc m e q p h = rw (← e .b-is) (positions-none ws (w .b) acc m q p)
+
+  pub assign-walks : (w : Record) (acc m : Map) → IsRecord ws l w → noPlace ≡ acc → Numbered positions ws (w .b) 0 acc m → Assigning R n ws ss used l r → ReadyT R n (w .a) m ws ss used 0 0 r
+  assign-walks w acc m e q p h =
+      let nine = h .occ in
+      let rule = h .fine .good l (h .left .below) in
+      let o = rule .occ nine .below in
+      let lt = h .left .below in
+      let fe = h .fine .few in
+      let rb = h .right .below in
+      let wi = h .fine .within in
+      let a = e .a-is in
+      record {
+        home = h .home;
+        is = h .right;
+        on = record { fine = h .fine; hole = omega arith; whole = p .whole; top = 16; low = rw (placed w acc m e q p h) (start-low ws l (rule .few (omega arith) (omega arith))); fits = omega arith };
+      }
+
+  pub assign-held : (w : Record) (ss₁ : List ℕ) → IsRecord ws l w → Assigning R n ws ss used l r → length ss₁ ≡ length ss → w .a < length ss₁
+  assign-held w ss₁ e h q = let o = hole-held R n (h .home) ws ss used 0 l (h .fine) (h .left) w e (h .occ) in omega arith
+
+  pub assigned : (w : Record) (acc m : Map) (ws₁ ss₁ : List ℕ) (x : Walked) (ss₂ : List ℕ) (y : Walked) → IsRecord ws l w → noPlace ≡ acc → Numbered positions ws (w .b) 0 acc m → Assigning R n ws ss used l r
+      → WalksT R n (w .a) m ws ss used 0 0 r ws₁ ss₁ x → Records (w .a) ss₁ x ss₂ y → Does² n (assign R l r) ws ss used ws₁ ss₂ y
+  unfolding assign
+  assigned w acc m ws₁ ss₁ x ss₂ y e z p h g q =
+      let fe = h .fine .few in
+      let rb = h .right .below in
+      let wi = h .fine .within in
+      let g₁ : walk enough R (fieldA ws l) (toPositions 0 (variables ws l)) 0 r (store ws ss used) ≡ shown ws₁ ss₁ x = rw (← e .a-is, ← placed w acc m e z p h) (g .run enough (omega arith)) in
+      record { run = rw g₁ (rw (← e .a-is) (q .run ws₁)); grown = rw (q .same) (g .grown) }
