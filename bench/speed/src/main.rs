@@ -1,0 +1,86 @@
+//! Measures the linked library's solve against the plain version on families that scale.
+
+mod lent;
+mod measure;
+mod processes;
+
+use measure::*;
+use std::process::ExitCode;
+
+const MOST_RATIO: f64 = 1.2;
+const MOST_GROWTH: f64 = 1.2;
+
+/// What the whole run gave.
+#[derive(Default)]
+struct Summary {
+    rows: u32,
+    slow: u32,
+    growing: u32,
+    worst: f64,
+    logarithms: f64,
+}
+
+/// Measures the families whose name contains the word given, or all.
+fn main() -> ExitCode {
+    let words: Vec<String> = std::env::args().skip(1).collect();
+    let words: Vec<&str> = words.iter().map(String::as_str).collect();
+    let outcome = match words[..] {
+        [] => table(""),
+        ["--process", number] => processes::in_this(number.parse().unwrap_or(usize::MAX)),
+        [part] => table(part),
+        _ => Err("usage: speed [PART]".to_string()),
+    };
+    if let Err(error) = outcome {
+        eprintln!("{error}");
+        return ExitCode::from(1);
+    }
+    ExitCode::SUCCESS
+}
+
+/// Prints a row for each family and size, and a summary.
+fn table(part: &str) -> Result<(), String> {
+    println!("| family | size | records | nodes | library ns | plain ns | ratio | plain machine alone ns | library ns per node | plain ns per node | growth of cost per node | |");
+    println!("|---|---|---:|---:|---:|---:|---:|---:|---:|---:|---|---|");
+    let mut summary = Summary::default();
+    for (number, family) in families::ALL.iter().enumerate() {
+        if family.name.contains(part) {
+            one_family(number, &mut summary).map_err(|error| format!("{}: {error}", family.name))?;
+        }
+    }
+    let mean = (summary.logarithms / f64::from(summary.rows.max(1))).exp();
+    println!();
+    println!(
+        "{} rows; ratio: mean {mean:.2}, worst {:.2}; above {MOST_RATIO}: {}; cost per node growing: {}",
+        summary.rows, summary.worst, summary.slow, summary.growing
+    );
+    Ok(())
+}
+
+fn one_family(number: usize, summary: &mut Summary) -> Result<(), String> {
+    let family = &families::ALL[number];
+    let problems = processes::problems(family);
+    let nodes = problems.each_ref().map(|records| families::nodes(records) as f64);
+    let found = processes::in_several(number)?;
+    for (which, size) in ["small", "middle", "large"].iter().enumerate() {
+        let row = found[which];
+        let growth = [LIBRARY_GROWTH, PLAIN_GROWTH].map(|column| row[column] * nodes[1] / nodes[which]);
+        let slow = row[RATIO] > MOST_RATIO;
+        let growing = which == 2 && growth[0] > MOST_GROWTH;
+        print!("| {} | {size} | {} | {} ", family.name, problems[which].len(), nodes[which]);
+        print!("| {:.0} | {:.0} | {:.2} ", row[LIBRARY], row[PLAIN], row[RATIO]);
+        print!("| {:.0} | {:.1} ", row[MACHINE_ALONE], row[LIBRARY] / nodes[which]);
+        print!("| {:.1} | ", row[PLAIN] / nodes[which]);
+        if which == 2 {
+            print!("{:.2}, plain {:.2}", growth[0], growth[1]);
+        }
+        let flags = [(slow, "slow"), (growing, "grows")];
+        let flags: Vec<&str> = flags.iter().filter(|flag| flag.0).map(|flag| flag.1).collect();
+        println!(" | {} |", flags.join(", "));
+        summary.rows += 1;
+        summary.slow += u32::from(slow);
+        summary.growing += u32::from(growing);
+        summary.worst = summary.worst.max(row[RATIO]);
+        summary.logarithms += row[RATIO].ln();
+    }
+    Ok(())
+}

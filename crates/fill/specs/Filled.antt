@@ -1,0 +1,43 @@
+-- Words set from the front, and what a part that was set makes of the whole.
+use Prim.Native.Nat.{ℕ, _+_, _-_, _<_, _≤_}
+use mathlib.Core.Path.{_≡_, sym, ap, _∙_}
+use mathlib.Core.List.{List, _++_, append-nil}
+use native.Mathlib.Omega.{arith}
+use lib.ListN.{length, replicate, take, drop, set, drop-of-length-le, length-take, length-drop, length-replicate}
+use lib.Seq.{drop-drop}
+use borrow.Author.Fill.{fill-more}
+use borrow.Rule.Slice.PartMut.{putMid, take-put, drop-put}
+use Rattle.rules.specs.Solve.{filled}
+
+-- the first i words are x, the others as they were
+module _ (ws₀ ws : List ℕ) (i x : ℕ) (e : ws ≡ replicate i x ++ drop i ws₀) where
+  pub filled-more : i < length ws₀ → set ws i x ≡ replicate (i + 1) x ++ drop (i + 1) ws₀
+  filled-more h = rw e (fill-more i x ws₀ h)
+
+  pub filled-all : i ≤ length ws₀ → length ws₀ ≤ i → replicate (length ws₀) x ≡ ws
+  filled-all g h =
+      let k : i ≡ length ws₀ = omega arith in
+      sym (e ∙ rw (drop-of-length-le ws₀ h, ← k) (append-nil _))
+
+pub part-filled : (i k x : ℕ) (ws part : List ℕ) → i + k ≤ length ws → replicate (length (take ((i + k) - i) (drop i ws))) x ≡ part → filled i k x ws ≡ putMid i ((i + k) - i) ws part
+unfolding filled
+part-filled i k x ws part h p =
+    let m : (i + k) - i ≡ k = omega arith in
+    let l : length (take ((i + k) - i) (drop i ws)) ≡ k = simp (length-take, length-drop) (omega arith) in
+    rw (← p, l, m, drop-drop)
+
+-- what was put in the part does not matter when it is filled
+pub filled-put : (i k x : ℕ) (ws part : List ℕ) → i + k ≤ length ws → length part ≡ k → filled i k x (putMid i k ws part) ≡ filled i k x ws
+unfolding filled
+filled-put i k x ws part h l =
+    let m : (i + k) - i ≡ k = omega arith in
+    let d : drop (i + k) (putMid i ((i + k) - i) ws part) ≡ drop (i + k) ws = drop-put i (i + k) ws part (omega arith) h (l ∙ sym m) in
+    let d₁ : drop (i + k) (putMid i k ws part) ≡ drop (i + k) ws = rw m at d in
+    rw (take-put i k ws part (omega arith), d₁)
+
+filled-is-put : (i k x : ℕ) (ws : List ℕ) → filled i k x ws ≡ putMid i k ws (replicate k x)
+unfolding filled
+filled-is-put i k x ws = rw drop-drop
+
+pub filled-again : (i k x : ℕ) (ws : List ℕ) → i + k ≤ length ws → filled i k x (filled i k x ws) ≡ filled i k x ws
+filled-again i k x ws h = ap (λ (l : List ℕ). filled i k x l) (filled-is-put i k x ws) ∙ filled-put i k x ws (replicate k x) h (length-replicate k x)

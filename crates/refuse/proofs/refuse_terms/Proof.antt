@@ -1,0 +1,20 @@
+use Rattle.refuse.specs.Refusing.{ill-typed-at, no-pattern-at, typed-all}
+use borrow.Author.Needs.{needs}
+use Rattle.refuse.proofs.refuse_terms.Statement.{statement}
+use Rattle.refuse.proofs.refuse_terms.Tie as tie
+use Rattle.refuse.proofs.refuse_terms.Reads as reads
+use Rattle.refuse.proofs.refuse_terms.Lts as lts
+use Rattle.patterns.proofs.no_pattern.Reads as no-pattern-reads
+use Rattle.typing.proofs.ill_typed.Reads as ill-typed-reads
+
+pub refuse-terms-spec : {M : Type 1} → statement M
+refuse-terms-spec =
+    tie.close
+    (tie.spec
+    (λ c κs. search needs)
+    (λ c. search needs)
+    (λ c. search needs)
+    (λ c κs. search needs)
+    (λ c. search (ill-typed-at, no-pattern-at, typed-all))
+    (λ c. search (ill-typed-at, no-pattern-at, typed-all))
+    (λ c. search (ill-typed-at, no-pattern-at, typed-all)))

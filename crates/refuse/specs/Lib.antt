@@ -1,0 +1,1 @@
+pub mod Refusing  -- the parts of a refusal, in order

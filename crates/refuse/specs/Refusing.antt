@@ -1,0 +1,152 @@
+-- The parts of a refusal, in order.
+use Prim.Native.Nat.{ℕ, _+_, _*_, _/_, _<_, _≤_}
+use mathlib.Core.Path.{_≡_, refl, sym, _∙_}
+use mathlib.Core.List.{List}
+use mathlib.Core.Bool.{Bool, true, false}
+use native.Mathlib.Omega.{arith}
+use lib.ListN.{length}
+use lib.Dec.{eqb, ltb}
+use mir.Syntax.{w32}
+use mir.Val.{Fits}
+use borrow.Author.Tests.{lt-ltb, le-ltb, eq-eqb, ne-eqb}
+use Rattle.rules.specs.declared.Found.{Found}
+use Rattle.rules.specs.declared.Found.the-variants.{At, Nowhere}
+use Rattle.table.specs.declared.Record.{Record}
+use Rattle.table.specs.Reading.{IsRecord}
+use Rattle.rules.specs.Lists.{both, either}
+use Rattle.rules.specs.Words.{NONE, HO, tag, has}
+use Rattle.rules.specs.Answers.{records}
+use Rattle.rules.specs.Records.{broken}
+use Rattle.rules.specs.Typing.{ill-typed}
+use Rattle.rules.specs.Pattern.{no-pattern}
+use Rattle.rules.specs.Solve.{Refusal as Refuses, admitted, refused, refusal}
+use Rattle.laws.specs.Sound.{broken-none}
+use Rattle.laws.specs.Members.{Legal}
+use Rattle.refuse.specs.declared.Asked.{Asked}
+use Rattle.refuse.specs.declared.Asked.the-variants.{Solving, Record as Asking}
+use Rattle.refuse.specs.declared.Refusal.{Refusal}
+use Rattle.refuse.specs.declared.Refusal.the-variants.{Admitted, Refused}
+
+-- the code's refusal as the rules have it
+abbrev pub refusalOf : Refusal → Refuses
+refusalOf Admitted = admitted
+refusalOf (Refused a p) = refused a p
+
+-- record h is an input hole
+unfoldable pub isHole : List ℕ → ℕ → ℕ → Bool
+isHole ws n h = both (ltb h n) (has ws h HO)
+
+-- what is asked for can be had
+unfoldable pub asks : Asked → List ℕ → ℕ → Bool
+asks Solving ws n = true
+asks (Asking h) ws n = isHole ws n h
+
+-- 6 and 7
+unfoldable pub typed : List ℕ → ℕ → Refuses
+typed ws n = elim (ill-typed ws n) [ At r ↦ refused 6 r | Nowhere ↦ elim (eqb (no-pattern ws n) NONE) [ false ↦ refused 7 (no-pattern ws n) | true ↦ admitted ] ]
+
+-- 10, then 6 and 7
+unfoldable pub asking : Bool → List ℕ → ℕ → Refuses
+asking b ws n = elim b [ false ↦ refused 10 0 | true ↦ typed ws n ]
+
+module _ (ws : List ℕ) where
+  pub room-less : (k : ℕ) → length ws / 4 ≡ k → k < 4096 → records ws ≡ k
+  unfolding records
+  room-less k e h = omega arith
+
+  pub room-most : (k : ℕ) → length ws / 4 ≡ k → 4096 ≤ k → records ws ≡ 4096
+  unfolding records
+  room-most k e h = omega arith
+
+module _ (ws : List ℕ) (n : ℕ) where
+  pub ill-typed-at : (x : Found) (p : ℕ) → x ≡ ill-typed ws n → x ≡ At p → typed ws n ≡ refused 6 p
+  unfolding typed
+  ill-typed-at x p e z = rw (sym e ∙ z, typed)
+
+  pub no-pattern-at : (x : Found) (p : ℕ) → x ≡ ill-typed ws n → x ≡ Nowhere → p ≡ no-pattern ws n → (p ≡ NONE → ⊥) → typed ws n ≡ refused 7 p
+  unfolding typed
+  no-pattern-at x p e z q ne = rw (sym e ∙ z, typed, sym q, ne-eqb _ _ ne, sym q)
+
+  pub typed-all : (x : Found) (p : ℕ) → x ≡ ill-typed ws n → x ≡ Nowhere → p ≡ no-pattern ws n → p ≡ NONE → typed ws n ≡ admitted
+  unfolding typed
+  typed-all x p e z q none = rw (sym e ∙ z, typed, sym q ∙ none)
+
+  -- a record asked for
+  pub hole-read : (h : ℕ) → Legal ws n → h < n → 4 * h + 3 < length ws
+  hole-read h l lt = let i = l .inside in omega arith
+
+  pub hole-fits : (h : ℕ) → Legal ws n → h < n → Fits w32 h
+  hole-fits h l lt = let f = l .few in record { fits = omega arith }
+
+  pub hole-within : (h : ℕ) (w : Record) (b : Bool) → h < n → IsRecord ws h w → eqb (w .tag) 4 ≡ b → isHole ws n h ≡ b
+  unfolding isHole both has
+  hole-within h w b lt e q = rw (lt-ltb _ _ lt, ← e .tag-is) q
+
+  pub hole-past : (h : ℕ) → n ≤ h → isHole ws n h ≡ false
+  unfolding isHole both
+  hole-past h le = rw (le-ltb _ _ le)
+
+  -- what is asked for
+  module _ (asked : Asked) where
+    pub asking-solve : (x : Refuses) → asked ≡ Solving → typed ws n ≡ x → asking (asks asked ws n) ws n ≡ x
+    unfolding asks asking
+    asking-solve x e h = rw e h
+
+    pub asking-hole : (h : ℕ) (b : Bool) (x : Refuses) → asked ≡ Asking h → isHole ws n h ≡ b → b ≡ true → typed ws n ≡ x → asking (asks asked ws n) ws n ≡ x
+    unfolding asks asking
+    asking-hole h b x e i t k = rw (e, i, t) k
+
+    pub asking-none : (h : ℕ) (b : Bool) → asked ≡ Asking h → isHole ws n h ≡ b → b ≡ false → asking (asks asked ws n) ws n ≡ refused 10 0
+    unfolding asks asking
+    asking-none h b e i t = rw (e, i, t)
+
+-- 5, then the others
+unfoldable pub sound : Bool → List ℕ → ℕ → Refuses
+sound b ws n = elim (broken ws n) [ At r ↦ refused 5 r | Nowhere ↦ asking b ws n ]
+
+-- the records are in the table, and this is what the search for a broken one found
+pub record Searched (ws : List ℕ) (n : ℕ) (x : Found) : Type 0 where
+  pub few : n ≤ 4096
+  pub inside : 4 * n ≤ length ws
+  pub found : x ≡ broken ws n
+
+module _ (ws : List ℕ) (n : ℕ) (x : Found) (h : Searched ws n x) where
+  pub legal : x ≡ Nowhere → Legal ws n
+  legal z = record { inside = h .inside; few = h .few; sound = broken-none ws n (sym (h .found) ∙ z) }
+
+  pub broken-at : (b : Bool) (p : ℕ) → x ≡ At p → sound b ws n ≡ refused 5 p
+  unfolding sound
+  broken-at b p z = rw (sym (h .found) ∙ z, sound)
+
+  pub none-broken : (b : Bool) (y : Refuses) → x ≡ Nowhere → asking b ws n ≡ y → sound b ws n ≡ y
+  unfolding sound
+  none-broken b y z k = rw (sym (h .found) ∙ z, sound) k
+
+-- 4, then the others
+module _ (b : Bool) (ws ss : List ℕ) (n R : ℕ) (room : records ws ≡ R) where
+  pub above-room : R < n → refusal b ws ss n ≡ refused 4 0
+  unfolding refusal either
+  above-room lt = let z : records ws < n = omega arith in rw (lt-ltb _ _ z, refusal)
+
+  module _ (le : n ≤ R) where
+    admits : ltb (records ws) n ≡ false
+    admits = let z : n ≤ records ws = omega arith in le-ltb _ _ z
+
+    pub few-solutions : length ss < R → refusal b ws ss n ≡ refused 4 0
+    unfolding refusal either
+    few-solutions lt = let z : length ss < records ws = omega arith in rw (admits, lt-ltb _ _ z, refusal)
+
+    pub all-admitted : (y : Refuses) → R ≤ length ss → sound b ws n ≡ y → refusal b ws ss n ≡ y
+    unfolding refusal either sound asking typed
+    all-admitted y held h = let z : records ws ≤ length ss = omega arith in rw (admits, le-ltb _ _ z, refusal) h
+
+module _ (ws : List ℕ) (n R : ℕ) (room : records ws ≡ R) (le : n ≤ R) where
+  pub in-table : (n ≤ 4096) × (4 * n ≤ length ws)
+  unfolding records
+  in-table = (omega arith, omega arith)
+
+  pub number-fits : Fits w32 n
+  number-fits = let i = in-table .0 in record { fits = omega arith }
+
+  pub searched : (x : Found) → x ≡ broken ws n → Searched ws n x
+  searched x e = record { few = in-table .0; inside = in-table .1; found = e }

@@ -1,0 +1,117 @@
+// The order of refusals before the machine: 4, 5, 10, 6, 7.
+use patterns::no_pattern;
+use records::broken;
+use rules::Found;
+use table::HO;
+use table::NONE;
+use table::read;
+use typing::ill_typed;
+ghost use mathlib.Core.Path.{_≡_};
+ghost use Prim.Native.Nat.{ℕ};
+ghost use Rattle.rules.specs.Answers.{records};
+ghost use Rattle.rules.specs.Solve.{refusal};
+ghost use Rattle.laws.specs.Members.{Legal};
+ghost use Rattle.refuse.specs.Refusing.{asks, typed, asking, sound, Searched, refusalOf, isHole};
+
+// What is asked for: solving, or the answer of a record.
+pub enum Asked {
+    Solving,
+    Record(usize),
+}
+
+// What comes before the machine: nothing, or an answer and its place.
+pub enum Refusal {
+    Admitted,
+    Refused { answer: u32, place: u32 },
+}
+
+// R: the length divided by 4, rounded down, at most 4,096.
+pub fn room_of(words: &[u32]) -> u32
+    ensures { λ r. ⌜ records (now (words .entry)) ≡ r ⌝ }
+{
+    let k = words.len() / 4;
+    if k < 4096 {
+        return k as u32;
+    }
+    4096
+}
+
+// Answers 6 and 7.
+fn refuse_terms(table: &[u32], n: u32) -> Refusal
+    requires { ⌜ Legal (now table) n ⌝ }
+    ensures { λ r. ⌜ typed (now (table .entry)) n ≡ refusalOf r ⌝ }
+{
+    match ill_typed(table, n) {
+        Found::At(place) => Refusal::Refused { answer: 6, place },
+        Found::Nowhere => {
+            let place = no_pattern(table, n);
+            if place == NONE {
+                return Refusal::Admitted;
+            }
+            Refusal::Refused { answer: 7, place }
+        }
+    }
+}
+
+// Whether a record is an input hole.
+fn is_hole(table: &[u32], n: u32, at: usize) -> bool
+    requires { ⌜ Legal (now table) n ⌝ }
+    ensures { λ r. ⌜ isHole (now (table .entry)) n at ≡ r ⌝ }
+{
+    if at < n as usize {
+        let rec = read(table, at as u32);
+        return rec.tag == HO;
+    }
+    false
+}
+
+// Answers 10, 6 and 7.
+fn refuse_asked(table: &[u32], n: u32, asked: Asked) -> Refusal
+    requires { ⌜ Legal (now table) n ⌝ }
+    ensures { λ r. ⌜ asking (asks asked (now (table .entry)) n) (now (table .entry)) n ≡ refusalOf r ⌝ }
+{
+    match asked {
+        Asked::Solving => refuse_terms(table, n),
+        Asked::Record(at) => {
+            if is_hole(table, n, at) {
+                return refuse_terms(table, n);
+            }
+            Refusal::Refused {
+                answer: 10,
+                place: 0,
+            }
+        }
+    }
+}
+
+// Answers 5, 10, 6 and 7, after the search for a broken record.
+fn refuse_broken(table: &[u32], n: u32, asked: Asked, found: Found) -> Refusal
+    requires { ⌜ Searched (now table) n found ⌝ }
+    ensures { λ r. ⌜ sound (asks asked (now (table .entry)) n) (now (table .entry)) n ≡ refusalOf r ⌝ }
+{
+    match found {
+        Found::At(place) => Refusal::Refused { answer: 5, place },
+        Found::Nowhere => refuse_asked(table, n, asked),
+    }
+}
+
+// Answers 4, 5, 10, 6 and 7, in this order.
+pub fn refuse(table: &[u32], solutions: &[u32], n: usize, asked: Asked) -> Refusal
+    ensures { λ r. ⌜ refusal (asks asked (now (table .entry)) n) (now (table .entry)) (now (solutions .entry)) n ≡ refusalOf r ⌝ }
+{
+    let room = room_of(table) as usize;
+    if room < n {
+        return Refusal::Refused {
+            answer: 4,
+            place: 0,
+        };
+    }
+    if solutions.len() < room {
+        return Refusal::Refused {
+            answer: 4,
+            place: 0,
+        };
+    }
+    let found = broken(table, n as u32);
+    refuse_broken(table, n as u32, asked, found)
+}

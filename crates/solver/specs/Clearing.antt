@@ -1,0 +1,61 @@
+-- Where the machine starts: records n to R - 1 all zero, the first R solution words NONE.
+use Prim.Native.Nat.{ℕ, _+_, _-_, _*_, _/_, _<_, _≤_}
+use mathlib.Core.Path.{_≡_, refl, sym, _∙_}
+use mathlib.Core.List.{List}
+use native.Mathlib.Omega.{arith}
+use lib.ListN.{length}
+use mir.Syntax.{w64}
+use mir.Val.{Fits}
+use Rattle.rules.specs.Words.{NONE}
+use Rattle.rules.specs.Answers.{pairs}
+use Rattle.rules.specs.Solve.{filled}
+
+-- what clearing asks
+pub record Clearing (n R : ℕ) (ws ss : List ℕ) : Type 0 where
+  pub in-table : n ≤ R
+  pub few : R ≤ 4096
+  pub room : 4 * R ≤ length ws
+  pub held : R ≤ length ss
+
+-- table and solution words cleared
+pub record Cleared (n R : ℕ) (ws ss ws₁ ss₁ : List ℕ) : Type 0 where
+  pub table : filled (4 * n) (4 * (R - n)) 0 ws ≡ ws₁
+  pub solutions : filled 0 R NONE ss ≡ ss₁
+
+module _ (n R : ℕ) (ws ss : List ℕ) (h : Clearing n R ws ss) where
+  pub clearing-sub : n ≤ R
+  clearing-sub = h .in-table
+
+  pub clearing-table : 4 * n + 4 * (R - n) ≤ length ws
+  clearing-table = let a = h .in-table in let b = h .room in omega arith
+
+  pub clearing-solutions : 0 + R ≤ length ss
+  clearing-solutions = let a = h .held in omega arith
+
+  pub clearing-on : (ws₁ ss₁ : List ℕ) → length ws₁ ≡ length ws → length ss₁ ≡ length ss → Clearing n R ws₁ ss₁
+  clearing-on ws₁ ss₁ e f = let a = h .room in let b = h .held in record { in-table = h .in-table; few = h .few; room = omega arith; held = omega arith }
+
+pub cleared : (n R : ℕ) (ws ss ws₁ ss₁ : List ℕ) → filled (4 * n) (4 * (R - n)) 0 ws ≡ ws₁ → filled 0 R NONE ss ≡ ss₁ → Cleared n R ws ss ws₁ ss₁
+cleared n R ws ss ws₁ ss₁ e f = record { table = e; solutions = f }
+
+-- C
+module _ (qs : List ℕ) where
+  pub pairs-less : (k : ℕ) → length qs / 2 ≡ k → k < 1024 → pairs qs ≡ k
+  unfolding pairs
+  pairs-less k e h = omega arith
+
+  pub pairs-most : (k : ℕ) → length qs / 2 ≡ k → 1024 ≤ k → pairs qs ≡ 1024
+  unfolding pairs
+  pairs-most k e h = omega arith
+
+  pub pairs-held : (C : ℕ) → pairs qs ≡ C → 2 * C ≤ length qs
+  unfolding pairs
+  pairs-held C e = omega arith
+
+  module _ (C : ℕ) (e : pairs qs ≡ C) where
+    pub pairs-fit : Fits w64 (2 * C)
+    unfolding pairs
+    pairs-fit = record { fits = omega arith }
+
+    pub pairs-filled : (qs₁ : List ℕ) → length qs₁ ≡ length qs → 0 + 2 * C ≤ length qs₁
+    pairs-filled qs₁ l = let h = pairs-held C e in omega arith

@@ -1,0 +1,192 @@
+// Solving, and showing one hole's answer: the public functions over lent words.
+use fill::fill;
+use machine::Ran;
+use machine::machine;
+use refuse::Asked;
+use refuse::Refusal;
+use refuse::refuse;
+use refuse::room_of;
+use rules::Failure;
+use rules::Reply;
+use show::answer;
+use store::Walked;
+use table::Hole;
+use table::NONE;
+ghost use mathlib.Core.Path.{_≡_};
+ghost use Prim.Native.Nat.{ℕ, _*_, _≤_};
+ghost use lib.ListN.{length};
+ghost use Rattle.rules.specs.Answers.{pairs, number};
+ghost use Rattle.rules.specs.Solve.{admitted, refusal, leaves, solve as solveOf};
+ghost use Rattle.rules.specs.Show.{show as showOf};
+ghost use Rattle.machine.specs.Start.{Started};
+ghost use Rattle.refuse.specs.Refusing.{asks};
+ghost use Rattle.solver.specs.Clearing.{Clearing, Cleared};
+ghost use Rattle.solver.specs.Running.{Machines, Concludes, Admits};
+ghost use Rattle.solver.specs.Answering.{Answerable, Writes, Finishes};
+
+// C: the length divided by 2, rounded down, at most 1,024.
+fn pairs_of(queue: &[u32]) -> usize
+    ensures { λ r. ⌜ pairs (now (queue .entry)) ≡ r ⌝ }
+{
+    let k = queue.len() / 2;
+    if k < 1024 {
+        return k;
+    }
+    1024
+}
+
+// Records n to R - 1 all zero, the first R solution words NONE: the part of the table that starts at record n is lent on.
+fn clear(table: &mut [u32], solutions: &mut [u32], n: u32, room: u32)
+    requires { ⌜ Clearing n room (now table) (now solutions) ⌝ }
+    ensures { λ _. ⌜ Cleared n room (now (table .entry)) (now (solutions .entry)) (now (table .exit)) (now (solutions .exit)) ⌝ }
+{
+    let from = 4 * (n as usize);
+    let count = 4 * ((room - n) as usize);
+    fill(table, from, count, 0);
+    fill(solutions, 0, room as usize, NONE);
+}
+
+// This paper's number of each failure of the machine.
+fn number_of(failure: Failure) -> u32
+    ensures { λ r. ⌜ number failure ≡ r ⌝ }
+{
+    match failure {
+        Failure::Clash => 1,
+        Failure::Escape => 2,
+        Failure::Occurs => 3,
+        Failure::QueueFull => 8,
+        Failure::TableFull => 9,
+    }
+}
+
+// The machine, with the first C pairs of the queue lent on.
+fn run_machine(
+    table: &mut [u32],
+    solutions: &mut [u32],
+    queue: &mut [u32],
+    n: u32,
+    room: u32,
+    cap: usize,
+) -> Ran
+    requires { ⌜ Started room n (now table) (now solutions) (now queue) cap ⌝ }
+    ensures { λ r. ⌜ Machines room cap n (now (table .entry)) (now (solutions .entry)) (now (queue .entry)) (now (table .exit)) (now (solutions .exit)) (now (queue .exit)) r ⌝ }
+{
+    let end = 2 * cap;
+    machine(table, solutions, &mut queue[0..end], n, room, cap)
+}
+
+// The reply to what the machine came to; a failure leaves table and solutions cleared.
+fn conclude(table: &mut [u32], solutions: &mut [u32], n: u32, room: u32, ran: Ran) -> Reply
+    requires { ⌜ Clearing n room (now table) (now solutions) ⌝ }
+    ensures { λ r. ⌜ Concludes n room (now (table .entry)) (now (solutions .entry)) ran (now (table .exit)) (now (solutions .exit)) r ⌝ }
+{
+    match ran {
+        Ran::Solved(used) => Reply {
+            answer: 0,
+            place: 0,
+            used,
+        },
+        Ran::Failed(failure) => {
+            clear(table, solutions, n, room);
+            Reply {
+                answer: number_of(failure),
+                place: 0,
+                used: 0,
+            }
+        }
+    }
+}
+
+// An admitted input: the machine runs from a cleared table, and the queue is emptied.
+fn run(table: &mut [u32], solutions: &mut [u32], queue: &mut [u32], n: u32, room: u32) -> Reply
+    requires { ⌜ Admits room n (now table) (now solutions) ⌝ }
+    ensures { λ r. ⌜ leaves admitted (now (table .entry)) (now (solutions .entry)) (now (queue .entry)) n ≡ record { table = now (table .exit); solutions = now (solutions .exit); queue = now (queue .exit); said = r } ⌝ }
+{
+    let cap = pairs_of(queue);
+    clear(table, solutions, n, room);
+    let ran = run_machine(table, solutions, queue, n, room, cap);
+    let reply = conclude(table, solutions, n, room, ran);
+    fill(queue, 0, 2 * cap, 0);
+    reply
+}
+
+// A refusal writes nothing; otherwise the machine runs.
+fn leave(
+    table: &mut [u32],
+    n: usize,
+    solutions: &mut [u32],
+    queue: &mut [u32],
+    asked: Asked,
+) -> Reply
+    ensures { λ r. ⌜ leaves (refusal (asks asked (now (table .entry)) n) (now (table .entry)) (now (solutions .entry)) n) (now (table .entry)) (now (solutions .entry)) (now (queue .entry)) n ≡ record { table = now (table .exit); solutions = now (solutions .exit); queue = now (queue .exit); said = r } ⌝ }
+{
+    match refuse(table, solutions, n, asked) {
+        Refusal::Refused { answer, place } => Reply {
+            answer,
+            place,
+            used: 0,
+        },
+        Refusal::Admitted => {
+            let room = room_of(table);
+            run(table, solutions, queue, n as u32, room)
+        }
+    }
+}
+
+// Solving the first n records of a table, with solution and queue words.
+pub fn solve(table: &mut [u32], n: usize, solutions: &mut [u32], queue: &mut [u32]) -> Reply
+    ensures { λ r. ⌜ solveOf (now (table .entry)) (now (solutions .entry)) (now (queue .entry)) n ≡ record { table = now (table .exit); solutions = now (solutions .exit); queue = now (queue .exit); said = r } ⌝ }
+{
+    leave(table, n, solutions, queue, Asked::Solving)
+}
+
+// The reply to what was written; too few output records leave all counted records zero.
+fn finish(output: &mut [u32], room: u32, walked: Walked) -> Reply
+    requires { ⌜ 4 * room ≤ length (now output) ⌝ }
+    ensures { λ r. ⌜ Finishes room (now (output .entry)) walked (now (output .exit)) r ⌝ }
+{
+    match walked {
+        Walked::Root { root, used } => Reply {
+            answer: 0,
+            place: 0,
+            used,
+        },
+        Walked::Failed(_) => {
+            fill(output, 0, 4 * (room as usize), 0);
+            Reply {
+                answer: 11,
+                place: 0,
+                used: 0,
+            }
+        }
+    }
+}
+
+// The answer of an input hole after solving, in an output of which all counted records are zero.
+fn write_answer(table: &[u32], solutions: &[u32], output: &mut [u32], hole: Hole) -> Reply
+    requires { ⌜ Answerable (now table) (now solutions) (hole .0) ⌝ }
+    ensures { λ r. ⌜ Writes (now (table .entry)) (now (solutions .entry)) (hole .0) (now (output .entry)) (now (output .exit)) r ⌝ }
+{
+    let room = room_of(output);
+    fill(output, 0, 4 * (room as usize), 0);
+    let walked = answer(table, solutions, output, room, hole);
+    finish(output, room, walked)
+}
+
+// Showing record `hole` of the first n records: solves, then writes its answer into the output.
+pub fn show(
+    table: &mut [u32],
+    n: usize,
+    solutions: &mut [u32],
+    queue: &mut [u32],
+    hole: usize,
+    output: &mut [u32],
+) -> Reply
+    ensures { λ r. ⌜ showOf (now (table .entry)) (now (solutions .entry)) (now (queue .entry)) (now (output .entry)) n hole ≡ record { behind = record { table = now (table .exit); solutions = now (solutions .exit); queue = now (queue .exit); said = r }; output = now (output .exit) } ⌝ }
+{
+    let reply = leave(table, n, solutions, queue, Asked::Record(hole));
+    if reply.answer != 0 {
+        return reply;
+    }
+    write_answer(table, solutions, output, Hole(hole as u32))
+}

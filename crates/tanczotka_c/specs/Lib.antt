@@ -1,0 +1,1 @@
+pub mod Packed  -- a reply in one number, and that it fits
