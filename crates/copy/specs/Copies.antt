@@ -1,6 +1,6 @@
 -- The contracts of copying, and its big-step rules.
-use Prim.Native.Nat.{ℕ, zero, suc, _+_, _-_, _<_, _≤_}
-use mathlib.Core.Path.{_≡_, refl, sym}
+use Prim.Native.Nat.{ℕ, suc, _+_, _-_, _<_, _≤_}
+use mathlib.Core.Path.{_≡_, sym}
 use mathlib.Core.List.{List, _∷_}
 use mathlib.Core.Bool.{false}
 use native.Mathlib.Omega.{arith}
@@ -22,7 +22,7 @@ use Rattle.store.specs.Said.{store, shown, Since, since-root, since-failed, Doe
 use Rattle.places.specs.Maps.{mapOf, side}
 use Rattle.places.specs.Lists.{varsOf}
 use Rattle.places.specs.Follow.{Followed}
-use Rattle.rewrite.specs.Levels.{level-lambda, level-constant, level-escape, level-variable, level-hole, all-stops, all-goes}
+use Rattle.rewrite.specs.Levels.{fuel, level-lambda, level-constant, level-escape, level-variable, level-hole, all-stops, all-goes}
 
 -- with fuel enough, the copy of a term and of a list answers so, whatever the solutions are
 pub record CopiesT (R n : ℕ) (m : Map) (ws : List ℕ) (used d r : ℕ) (ws₁ : List ℕ) (x : Walked) : Type 0 where
@@ -32,10 +32,6 @@ pub record CopiesT (R n : ℕ) (m : Map) (ws : List ℕ) (used d r : ℕ) (ws₁
 pub record CopiesL (R n : ℕ) (m : Map) (ws : List ℕ) (used d l : ℕ) (ws₁ : List ℕ) (x : Walked) : Type 0 where
   pub run : (f : ℕ) → size l ≤ f → (ss : List ℕ) → writeAll (copy f R) R (mapOf m) d (elements ws l) (store ws ss used) ≡ shown ws₁ ss x
   pub grown : Since n x
-
-fuel : (n s : ℕ) → s < n → (k : ℕ) × (n ≡ suc k) × (s ≤ k)
-fuel zero s h = absurd (omega arith)
-fuel (suc k) s h = (k, refl, omega arith)
 
 module _ (R n : ℕ) (m : Map) (ws : List ℕ) (used d r : ℕ) where
   more : (ws₁ : List ℕ) (x : Walked) → Since n x

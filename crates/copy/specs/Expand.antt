@@ -1,5 +1,5 @@
 -- Step 1: while a side's head is a solved hole, the side is replaced by a copy of the solution.
-use Prim.Native.Nat.{ℕ, zero, suc, _-_, _<_, _≤_}
+use Prim.Native.Nat.{ℕ, suc, _-_, _<_, _≤_}
 use mathlib.Core.Path.{_≡_, refl, sym, ap, _∙_}
 use mathlib.Core.List.{List}
 use native.Mathlib.Omega.{arith}
@@ -18,6 +18,7 @@ use Rattle.invariants.specs.Floor.{Sub, Fine, Grown, limit}
 use Rattle.invariants.specs.Grow.{solved-at}
 use Rattle.invariants.specs.Write.{Written}
 use Rattle.invariants.specs.Copy.{Nobody, copy-grows}
+use Rattle.rewrite.specs.Levels.{fuel}
 use Rattle.store.specs.Said.{store, shown, Since, since-root, since-failed}
 use Rattle.rewrite.specs.Parts.{term-read}
 use Rattle.copy.specs.Solution.{headSolution, head-solved, Heading, Copying, CopiesSolution, names-low, names-fit}
@@ -32,10 +33,6 @@ pub record Expanding (R n : ℕ) (ws ss : List ℕ) (used r : ℕ) : Type 0 wher
 pub record Expands (R n : ℕ) (ws ss : List ℕ) (used r : ℕ) (ws₁ : List ℕ) (x : Walked) : Type 0 where
   pub run : (f : ℕ) → R - used < f → expand f R r (store ws ss used) ≡ shown ws₁ ss x
   pub grown : Since n x
-
-fuel : (n s : ℕ) → s < n → (k : ℕ) × (n ≡ suc k) × (s ≤ k)
-fuel zero s h = absurd (omega arith)
-fuel (suc k) s h = (k, refl, omega arith)
 
 -- one turn of the rule
 module _ (R n : ℕ) (ws ss : List ℕ) (used r : ℕ) where

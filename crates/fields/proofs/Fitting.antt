@@ -53,6 +53,15 @@ pub term-high : (k : ℕ) → 6 ≤ k → leb k 9 ≡ termTag k
 unfolding termTag both
 term-high k h = rw (le-leb 6 k h)
 
+module _ (k : ℕ) (b : Bool) (e : b ≡ typeTag k) where
+  pub type-so : b ≡ true → true ≡ either (typeTag k) (termTag k)
+  unfolding either
+  type-so t = rw (← e, t)
+
+  pub term-so : b ≡ false → termTag k ≡ either (typeTag k) (termTag k)
+  unfolding either
+  term-so t = rw (← e, t)
+
 module _ (ws : List ℕ) (r x : ℕ) where
   pub below-yes : x < r → tag ws x ≡ tagBelow ws r x
   unfolding tagBelow
@@ -170,21 +179,13 @@ module _ (ws : List ℕ) (r x : ℕ) where
   unfolding fits field termTag isTerm both
   terms-some k n e = list-of termTag refl k n e
 
-  element-is : (k : ℕ) → k ≡ tagBelow ws r x → either (typeTag k) (termTag k) ≡ fits ws r (field Element) x
+  pub element-is : (k : ℕ) → k ≡ tagBelow ws r x → either (typeTag k) (termTag k) ≡ fits ws r (field Element) x
   unfolding fits field typeTag termTag isType isTerm tagBelow both either
   element-is k e = rw e (go (ltb x r) refl)
     where
       go : (b : Bool) → ltb x r ≡ b → either (typeTag (tagBelow ws r x)) (termTag (tagBelow ws r x)) ≡ both (ltb x r) (either (isType ws x) (isTerm ws x))
       go true q = rw (q, tagBelow)
       go false q = rw (q, tagBelow)
-
-  pub element-type : (k : ℕ) (b : Bool) → k ≡ tagBelow ws r x → b ≡ typeTag k → b ≡ true → true ≡ fits ws r (field Element) x
-  unfolding either
-  element-type k b e h t = rw (← h, t) at (element-is k e)
-
-  pub element-term : (k : ℕ) (b c : Bool) → k ≡ tagBelow ws r x → b ≡ typeTag k → b ≡ false → c ≡ termTag k → c ≡ fits ws r (field Element) x
-  unfolding either
-  element-term k b c e h t i = rw (← h, t, ← i) at (element-is k e)
 
 -- All fields of a record
 

@@ -11,6 +11,7 @@ use table::read;
 ghost use mathlib.Core.Path.{_≡_};
 ghost use Prim.Native.Nat.{_+_, _*_, _<_};
 ghost use lib.ListN.{length};
+ghost use Rattle.rules.specs.Lists.{either};
 ghost use Rattle.rules.specs.Records.{fits, shaped};
 ghost use Rattle.fields.specs.Kinds.{field, IsShape, typeTag, termTag, tagBelow, elementTag, Above};
 
@@ -78,6 +79,13 @@ pub fn term_tag(k: u32) -> bool
     if k < LA { false } else { k <= HA }
 }
 
+// A list's element is a type or a term.
+fn type_or_term(k: u32) -> bool
+    ensures { λ b. ⌜ b ≡ either (typeTag k) (termTag k) ⌝ }
+{
+    if type_tag(k) { true } else { term_tag(k) }
+}
+
 // The tag of a lower record, or 0.
 fn tag_below(table: &[u32], r: u32, x: u32) -> u32
     requires { ⌜ 4 * r + 3 < length (now table) ⌝ }
@@ -134,10 +142,7 @@ fn fits(table: &[u32], r: u32, f: Field, x: u32) -> bool
                 term_tag(element_tag(table, r, x))
             }
         }
-        Field::Element => {
-            let k = tag_below(table, r, x);
-            if type_tag(k) { true } else { term_tag(k) }
-        }
+        Field::Element => type_or_term(tag_below(table, r, x)),
         Field::Rest => {
             if x == NONE {
                 true

@@ -1,3 +1,2 @@
 pub mod Run  -- the run's contract, and what a turn of its loop keeps
 pub mod Start  -- where the run and the machine start
-pub mod Admitted  -- every admitted input is one on which the machine starts

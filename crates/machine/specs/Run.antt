@@ -1,5 +1,5 @@
 -- The run's contract, and what a turn of its loop keeps.
-use Prim.Native.Nat.{ℕ, zero, suc, _-_, _<_, _≤_}
+use Prim.Native.Nat.{ℕ, suc, _-_, _<_}
 use mathlib.Core.Path.{_≡_, refl, ap, subst, _∙_}
 use mathlib.Core.List.{List, [], _∷_}
 use native.Mathlib.Omega.{arith}
@@ -17,6 +17,7 @@ use Rattle.invariants.specs.Floor.{Grown}
 use Rattle.invariants.specs.Copy.{Nobody}
 use Rattle.invariants.specs.Running.{Running, Stepped, ahead}
 use Rattle.invariants.specs.Turn.{step-grows}
+use Rattle.rewrite.specs.Levels.{fuel}
 use Rattle.store.specs.Said.{store}
 use Rattle.queue.specs.Ring.{Some, view, view-none, Leaves, frontOf, left-view, left-fine}
 use Rattle.step.specs.Said.{stepped, Steps}
@@ -30,10 +31,6 @@ ended ws ss (Failed e) = fails ws ss e
 -- with fuel enough, the run of these pairs answers so
 pub record Runs (R C : ℕ) (q : List Waiting) (ws ss : List ℕ) (used : ℕ) (ws₁ ss₁ : List ℕ) (x : Ran) : Type 0 where
   pub run : (f : ℕ) → ahead R C used q < f → run f R C q (store ws ss used) ≡ ended ws₁ ss₁ x
-
-fuel : (n s : ℕ) → s < n → (k : ℕ) × (n ≡ suc k) × (s ≤ k)
-fuel zero s h = absurd (omega arith)
-fuel (suc k) s h = (k, refl, omega arith)
 
 -- no pair is left
 pub runs-none : (R C : ℕ) (ws ss : List ℕ) (used : ℕ) (q : List Waiting) → q ≡ [] → Runs R C q ws ss used ws ss (Solved used)

@@ -14,7 +14,7 @@ use Rattle.fields.specs.Kinds.{Above}
 use Rattle.records.specs.Marks.{used, Passed}
 use Rattle.records.proofs.Uses.{marked-start}
 
-pub passed-start : (ws : List ℕ) → Passed ws (replicate 4097 0) (replicate 4096 0) (replicate 4096 0) 0 0
+pub passed-start : (ws : List ℕ) → Passed ws (replicate 4096 0) (replicate 4096 0) (replicate 4096 0) 0 0
 unfolding used those below from
 passed-start ws = record {
   lower = λ r h. absurd (omega arith);

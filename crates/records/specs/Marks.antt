@@ -1,9 +1,8 @@
 -- What the marks mean: lengths of lists, types met, references used.
-use Prim.Native.Nat.{ℕ, zero, suc, _+_, _*_, _<_, _≤_, min}
+use Prim.Native.Nat.{ℕ, zero, suc, _+_, _*_, _<_, _≤_}
 use mathlib.Core.Path.{_≡_}
 use mathlib.Core.Bool.{Bool, true, false, not}
 use mathlib.Core.List.{List, [], _∷_, _++_}
-use mathlib.Core.Logic.{_⊎_}
 use lib.ListN.{length, getD, take}
 use lib.Dec.{eqb, leb}
 use Rattle.rules.specs.declared.Found.{Found}
@@ -21,21 +20,21 @@ use Rattle.fields.specs.Kinds.{typeTag, termTag, Above}
 unfoldable pub alikeTags : ℕ → ℕ → Bool
 alikeTags k j = either (both (typeTag k) (typeTag j)) (both (termTag k) (termTag j))
 
--- such a field refers to a record
-unfoldable pub refersTo : Field → Bool
-refersTo Never = false
-refersTo Nil = false
-refersTo Any = false
-refersTo Small = false
-refersTo OfType = true
-refersTo OfBase = true
-refersTo OfConstant = true
-refersTo OfHole = true
-refersTo OfTerm = true
-refersTo SomeTypes = true
-refersTo Terms = true
-refersTo Element = true
-refersTo Rest = true
+-- such a field refers to a record where it holds x; NONE is no record
+unfoldable pub refersTo : Field → ℕ → Bool
+refersTo Never x = false
+refersTo Nil x = false
+refersTo Any x = false
+refersTo Small x = false
+refersTo OfType x = true
+refersTo OfBase x = true
+refersTo OfConstant x = true
+refersTo OfHole x = true
+refersTo OfTerm x = true
+refersTo SomeTypes x = not (eqb x NONE)
+refersTo Terms x = not (eqb x NONE)
+refersTo Element x = true
+refersTo Rest x = not (eqb x NONE)
 
 -- records of tag 5 to 9 are referred to at most once
 unfoldable pub counts : List ℕ → ℕ → Bool
@@ -85,14 +84,10 @@ pub record TypeSays (ws ts : List ℕ) (r : ℕ) (x : Found) : Type 0 where
   pub fresh : (k : ℕ) → x ≡ At k → new-type ws r ≡ true
   pub next : (k : ℕ) → x ≡ At k → Types ts k ws (r + 1)
 
--- a record's number, or NONE
-abbrev pub Near : ℕ → Type 0
-Near x = (x < 4096) ⊎ (x ≡ NONE)
-
--- those of u have mark 1, all others 0; NONE's mark is the last
+-- those of u have mark 1, all others 0
 pub record Marked (ms u : List ℕ) : Type 0 where
-  pub size : length ms ≡ 4097
-  pub marked : (x : ℕ) → Near x → getD ms (min x 4096) 0 ≡ elim (among u x) [ true ↦ 1 | false ↦ 0 ]
+  pub size : length ms ≡ 4096
+  pub marked : (x : ℕ) → x < 4096 → getD ms x 0 ≡ elim (among u x) [ true ↦ 1 | false ↦ 0 ]
 
 -- the records of tag 5 to 9 that the records below r refer to
 unfoldable pub used : List ℕ → ℕ → List ℕ
@@ -109,12 +104,13 @@ unfoldable pub one : Bool → ℕ → List ℕ
 one counted x = elim counted [ true ↦ x ∷ [] | false ↦ [] ]
 
 abbrev pub reference-of : List ℕ → Field → ℕ → List ℕ
-reference-of ws f x = one (both (refersTo f) (counts ws x)) x
+reference-of ws f x = one (both (refersTo f x) (counts ws x)) x
 
--- what a field refers to has a mark
-pub record MarkAsks (ms : List ℕ) (f : Field) (x : ℕ) : Type 0 where
-  pub near : refersTo f ≡ true → Near x
-  pub room : 4096 < length ms
+-- what a field refers to is a record with a mark
+pub record MarkAsks (ws ms : List ℕ) (f : Field) (x : ℕ) : Type 0 where
+  pub inside : refersTo f x ≡ true → 4 * x + 3 < length ws
+  pub low : refersTo f x ≡ true → x < 4096
+  pub room : length ms ≡ 4096
 
 -- the answer for one field, and the marks with it, whatever was marked before
 pub record MarkSays (ws ms ms₁ : List ℕ) (f : Field) (x : ℕ) (b : Bool) : Type 0 where

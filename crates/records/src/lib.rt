@@ -11,7 +11,7 @@ use table::NONE;
 use table::Record;
 use table::read;
 ghost use mathlib.Core.Path.{_≡_};
-ghost use Prim.Native.Nat.{_+_, _*_, _<_, _≤_, min};
+ghost use Prim.Native.Nat.{_+_, _*_, _<_, _≤_};
 ghost use lib.ListN.{length};
 ghost use Rattle.rules.specs.Records.{new-type, broken};
 ghost use Rattle.records.specs.Marks.{alikeTags, refersTo, counts, equals, ListAsks, ListSays, TypeAsks, RecordAsks, TypeSays, MarkAsks, MarkSays, UseAsks, UseSays};
@@ -108,9 +108,9 @@ fn add_type(table: &[u32], types: &mut [u32], count: u32, r: u32) -> Found
     Found::At(count + 1)
 }
 
-// A field refers to a record.
-fn refers(f: Field) -> bool
-    ensures { λ b. ⌜ b ≡ refersTo f ⌝ }
+// A field that holds x refers to a record; NONE is no record.
+fn refers(f: Field, x: u32) -> bool
+    ensures { λ b. ⌜ b ≡ refersTo f x ⌝ }
 {
     match f {
         Field::Never => false,
@@ -122,45 +122,34 @@ fn refers(f: Field) -> bool
         Field::OfConstant => true,
         Field::OfHole => true,
         Field::OfTerm => true,
-        Field::Types => true,
-        Field::Terms => true,
+        Field::Types => x != NONE,
+        Field::Terms => x != NONE,
         Field::Element => true,
-        Field::Rest => true,
+        Field::Rest => x != NONE,
     }
 }
 
-// A number's record is of tag 5 to 9; past the table's end there is none.
+// A record is of tag 5 to 9.
 fn counted(table: &[u32], x: u32) -> bool
+    requires { ⌜ 4 * x + 3 < length (now table) ⌝ }
     ensures { λ b. ⌜ b ≡ counts (now (table .entry)) x ⌝ }
 {
-    let i = 4 * (x as usize);
-    if i < table.len() {
-        let k = table[i];
-        if k < CE { false } else { k <= HA }
-    } else {
-        false
-    }
-}
-
-// Where a record's mark is; NONE has the last mark.
-fn mark_of(x: u32) -> usize
-    ensures { λ i. ⌜ i ≡ min x 4096 ⌝ }
-{
-    if x < 4096 { x as usize } else { 4096 }
+    let y = read(table, x);
+    if y.tag < CE { false } else { y.tag <= HA }
 }
 
 // What a field refers to is marked; false if it is marked already.
 fn mark(table: &[u32], marks: &mut [u8], f: Field, x: u32) -> bool
-    requires { ⌜ MarkAsks (now marks) f x ⌝ }
+    requires { ⌜ MarkAsks (now table) (now marks) f x ⌝ }
     ensures { λ b. ⌜ MarkSays (now (table .entry)) (now (marks .entry)) (now (marks .exit)) f x b ⌝ }
 {
-    if !refers(f) {
+    if !refers(f, x) {
         return true;
     }
     if !counted(table, x) {
         return true;
     }
-    let at = mark_of(x);
+    let at = x as usize;
     if marks[at] == 1 {
         return false;
     }
@@ -192,7 +181,7 @@ pub fn broken(table: &[u32], n: u32) -> Found
     requires { ⌜ (n ≤ 4096) × (4 * n ≤ length (now table)) ⌝ }
     ensures { λ r. ⌜ r ≡ broken (now (table .entry)) n ⌝ }
 {
-    let mut marks = [0u8; 4097];
+    let mut marks = [0u8; 4096];
     let mut lengths = [0u8; 4096];
     let mut types = [0u32; 4096];
     let mut count = 0;

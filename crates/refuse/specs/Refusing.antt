@@ -1,14 +1,12 @@
 -- The parts of a refusal, in order.
-use Prim.Native.Nat.{ℕ, _+_, _*_, _/_, _<_, _≤_}
-use mathlib.Core.Path.{_≡_, refl, sym, _∙_}
+use Prim.Native.Nat.{ℕ, _*_, _/_, _<_, _≤_}
+use mathlib.Core.Path.{_≡_, sym, _∙_}
 use mathlib.Core.List.{List}
 use mathlib.Core.Bool.{Bool, true, false}
 use native.Mathlib.Omega.{arith}
 use lib.ListN.{length}
 use lib.Dec.{eqb, ltb}
-use mir.Syntax.{w32}
-use mir.Val.{Fits}
-use borrow.Author.Tests.{lt-ltb, le-ltb, eq-eqb, ne-eqb}
+use borrow.Author.Tests.{lt-ltb, le-ltb, ne-eqb}
 use Rattle.rules.specs.declared.Found.{Found}
 use Rattle.rules.specs.declared.Found.the-variants.{At, Nowhere}
 use Rattle.table.specs.declared.Record.{Record}
@@ -72,12 +70,6 @@ module _ (ws : List ℕ) (n : ℕ) where
   typed-all x p e z q none = rw (sym e ∙ z, typed, sym q ∙ none)
 
   -- a record asked for
-  pub hole-read : (h : ℕ) → Legal ws n → h < n → 4 * h + 3 < length ws
-  hole-read h l lt = let i = l .inside in omega arith
-
-  pub hole-fits : (h : ℕ) → Legal ws n → h < n → Fits w32 h
-  hole-fits h l lt = let f = l .few in record { fits = omega arith }
-
   pub hole-within : (h : ℕ) (w : Record) (b : Bool) → h < n → IsRecord ws h w → eqb (w .tag) 4 ≡ b → isHole ws n h ≡ b
   unfolding isHole both has
   hole-within h w b lt e q = rw (lt-ltb _ _ lt, ← e .tag-is) q
@@ -144,9 +136,6 @@ module _ (ws : List ℕ) (n R : ℕ) (room : records ws ≡ R) (le : n ≤ R) wh
   pub in-table : (n ≤ 4096) × (4 * n ≤ length ws)
   unfolding records
   in-table = (omega arith, omega arith)
-
-  pub number-fits : Fits w32 n
-  number-fits = let i = in-table .0 in record { fits = omega arith }
 
   pub searched : (x : Found) → x ≡ broken ws n → Searched ws n x
   searched x e = record { few = in-table .0; inside = in-table .1; found = e }

@@ -1,6 +1,7 @@
 -- One level of a term written anew, as the code answers it: what follows from what the children come to.
-use Prim.Native.Nat.{ℕ, _+_, _-_}
-use mathlib.Core.Path.{_≡_, sym, _∙_}
+use Prim.Native.Nat.{ℕ, zero, suc, _+_, _<_, _≤_}
+use mathlib.Core.Path.{_≡_, refl, sym, _∙_}
+use native.Mathlib.Omega.{arith}
 use mathlib.Core.List.{List, _∷_}
 use Rattle.rules.specs.declared.Found.{Found}
 use Rattle.rules.specs.declared.Found.the-variants.{At, Nowhere}
@@ -16,6 +17,11 @@ use Rattle.rules.specs.Map.{Map as Pairs, placeOf}
 use Rattle.rules.specs.Rewrite.{Writer, writeAll, writeTerm}
 use Rattle.invariants.specs.Forms.{form-6, form-7, form-8, form-9}
 use Rattle.store.specs.Said.{store, shown, Then, over, under}
+
+-- fuel above a measure: one less is left below
+pub fuel : (n s : ℕ) → s < n → (k : ℕ) × (n ≡ suc k) × (s ≤ k)
+fuel zero s h = absurd (omega arith)
+fuel (suc k) s h = (k, refl, omega arith)
 
 module _ (onHole write : Writer) (R n : ℕ) (m : Pairs) (ws ss : List ℕ) (used d r : ℕ) (w : Record) (is : IsRecord ws r w) where
   abbrev Level : List ℕ → List ℕ → Walked → Type 0

@@ -1,9 +1,9 @@
 -- The answer of an input hole, over its context variables in order.
 use Prim.Native.Nat.{ℕ, zero, suc, _+_, _-_, _*_, _<_, _≤_}
-use mathlib.Core.Path.{_≡_, refl, sym, _∙_}
+use mathlib.Core.Path.{_≡_, sym, _∙_}
 use mathlib.Core.List.{List, [], _∷_, _++_, append-nil, append-assoc}
 use native.Mathlib.Omega.{arith}
-use lib.ListN.{length, getD}
+use lib.ListN.{length}
 use mir.Syntax.{w32}
 use mir.Val.{Fits}
 use Rattle.store.specs.declared.Walked.{Walked}
@@ -11,17 +11,16 @@ use Rattle.table.specs.declared.Record.{Record}
 use Rattle.table.specs.Reading.{IsRecord}
 use Rattle.places.specs.declared.Map.{Map}
 use Rattle.rules.specs.Lists.{from, below, enough}
-use Rattle.rules.specs.Words.{NONE, fieldA, elements}
+use Rattle.rules.specs.Words.{fieldA, elements}
 use Rattle.rules.specs.Map.{toVariables}
 use Rattle.rules.specs.Show.{answer}
-use Rattle.invariants.specs.Floor.{Sub, All, Fine}
-use Rattle.invariants.specs.Places.{Low, variables-low}
-use Rattle.invariants.specs.Rise.{reach}
+use Rattle.invariants.specs.Floor.{All}
+use Rattle.invariants.specs.Places.{variables-low}
 use Rattle.store.specs.Said.{store, shown}
 use Rattle.places.specs.Maps.{mapOf, pairsFrom, added, mapOf-added, added-whole, noPlace, none-whole, Whole}
 use Rattle.places.specs.Lists.{Counts}
 use Rattle.show.specs.Shows.{ShowsH}
-use Rattle.show.specs.Ready.{Final, On, ReadyH}
+use Rattle.show.specs.Ready.{Final, ReadyH}
 
 -- what numbering from j to k asks, and the map made
 pub record Ordering (k j : ℕ) (acc : Map) : Type 0 where

@@ -2,13 +2,12 @@
 use Prim.Native.Nat.{ℕ, _+_}
 use mathlib.Core.Path.{_≡_, sym, _∙_}
 use mathlib.Core.List.{List}
-use Rattle.rules.specs.declared.Found.{Found}
 use Rattle.rules.specs.declared.Found.the-variants.{At, Nowhere}
 use Rattle.rules.specs.declared.Failure.the-variants.{Escape}
 use Rattle.table.specs.declared.Record.{Record}
 use Rattle.table.specs.Reading.{IsRecord}
-use Rattle.rules.specs.Words.{tag, fieldA, fieldB, elements, arguments}
-use Rattle.rules.specs.Store.{Store, Out, fail, _>>=_}
+use Rattle.rules.specs.Words.{tag, fieldA, elements, arguments}
+use Rattle.rules.specs.Store.{Store, fail, _>>=_}
 use Rattle.rules.specs.Map.{Map, placeOf}
 use Rattle.rules.specs.Rewrite.{Writer, writeAll, writeTerm}
 use Rattle.invariants.specs.Forms.{form-6, form-7, form-8, form-9}

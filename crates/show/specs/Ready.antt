@@ -1,13 +1,13 @@
 -- What showing asks, and that it still holds where the code goes on.
-use Prim.Native.Nat.{ℕ, zero, suc, _+_, _*_, _<_, _≤_}
+use Prim.Native.Nat.{ℕ, suc, _+_, _*_, _<_, _≤_}
 use mathlib.Core.Path.{_≡_, refl, sym, _∙_}
-use mathlib.Core.List.{List, [], _∷_}
+use mathlib.Core.List.{List, _∷_}
 use native.Mathlib.Omega.{arith}
 use lib.ListN.{length, getD}
 use mir.Syntax.{w32}
 use mir.Val.{Fits}
 use Rattle.rules.specs.declared.Found.{Found}
-use Rattle.rules.specs.declared.Found.the-variants.{At, Nowhere}
+use Rattle.rules.specs.declared.Found.the-variants.{At}
 use Rattle.rules.specs.declared.Failure.{Failure}
 use Rattle.store.specs.declared.Walked.{Walked}
 use Rattle.store.specs.declared.Walked.the-variants.{Root, Failed}
@@ -20,7 +20,7 @@ use Rattle.laws.specs.Lists.{size, size-real}
 use Rattle.invariants.specs.Floor.{Sub, Args, Fine}
 use Rattle.invariants.specs.Grow.{sub-less, args-less}
 use Rattle.invariants.specs.Places.{Low, followed}
-use Rattle.invariants.specs.Rise.{reach, raised, raised-on, Rises, rises}
+use Rattle.invariants.specs.Rise.{reach, raised-on, Rises, rises}
 use Rattle.store.specs.Said.{store, Then, over, under}
 use Rattle.places.specs.Maps.{mapOf, Whole}
 use Rattle.places.specs.Looking.{Looks}

@@ -1,11 +1,11 @@
 -- The contracts of showing, and its big-step rules.
 use Prim.Native.Nat.{ℕ, zero, suc, _+_, _<_, _≤_}
 use mathlib.Core.Path.{_≡_, refl, sym, _∙_}
-use mathlib.Core.List.{List, [], _∷_}
-use mathlib.Core.Bool.{true, false}
+use mathlib.Core.List.{List, _∷_}
+use mathlib.Core.Bool.{false}
 use native.Mathlib.Omega.{arith}
 use lib.ListN.{getD}
-use borrow.Author.Tests.{eq-eqb, ne-eqb}
+use borrow.Author.Tests.{ne-eqb}
 use Rattle.rules.specs.declared.Found.{Found}
 use Rattle.rules.specs.declared.Found.the-variants.{At, Nowhere}
 use Rattle.rules.specs.declared.Failure.{Failure}
@@ -15,9 +15,9 @@ use Rattle.store.specs.declared.Walked.the-variants.{Root, Failed}
 use Rattle.table.specs.declared.Record.{Record}
 use Rattle.table.specs.Reading.{IsRecord}
 use Rattle.places.specs.declared.Map.{Map}
-use Rattle.rules.specs.Words.{NONE, tag, fieldA, fieldB, elements, arguments, variables}
-use Rattle.rules.specs.Store.{fail, _>>=_, pushOccurrence, solved, solution}
-use Rattle.rules.specs.Map.{placeOf, follow, targets}
+use Rattle.rules.specs.Words.{NONE, tag, fieldB, elements, arguments, variables}
+use Rattle.rules.specs.Store.{fail, pushOccurrence, solved, solution}
+use Rattle.rules.specs.Map.{placeOf, follow}
 use Rattle.rules.specs.Rewrite.{writeAll, writeTerm}
 use Rattle.rules.specs.Show.{showHole, expandHole, showTerm}
 use Rattle.laws.specs.Lists.{size, elements-none}

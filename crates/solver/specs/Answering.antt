@@ -1,13 +1,11 @@
 -- A hole's answer after solving.
 use Prim.Native.Nat.{ℕ, zero, suc, _+_, _-_, _*_, _<_, _≤_}
 use mathlib.Core.Path.{_≡_, refl, sym, ap, _∙_}
-use mathlib.Core.List.{List, []}
-use mathlib.Core.Logic.{_⊎_, inl, inr}
-use mathlib.Core.Bool.{Bool, true, false}
+use mathlib.Core.List.{List}
+use mathlib.Core.Logic.{inl, inr}
 use native.Mathlib.Omega.{arith}
 use native.Mathlib.Decide.{ℕ-discrete}
 use lib.ListN.{length, getD}
-use lib.Dec.{eqb, ltb}
 use mir.Syntax.{w32}
 use mir.Val.{Fits}
 use borrow.Author.Tests.{ltb-true, eqb-true}
@@ -15,17 +13,16 @@ use Rattle.rules.specs.declared.Failure.{Failure}
 use Rattle.rules.specs.declared.Failure.the-variants.{Clash, Escape, Occurs, QueueFull, TableFull}
 use Rattle.rules.specs.declared.Reply.{Reply}
 use Rattle.rules.specs.Words.{NONE, HO, CE, tag, fieldA, has, elements}
-use Rattle.rules.specs.Lists.{both}
 use Rattle.rules.specs.Answers.{number, reply, records, pairs}
 use Rattle.rules.specs.Store.{Store, Out, goes, fails, spent}
 use Rattle.rules.specs.Machine.{Pair, machine}
 use Rattle.rules.specs.Solve.{Refusal as Refuses, admitted, refused, refusal, filled, start, Behind, leaves}
 use Rattle.rules.specs.Show.{Shown, answer, answering, shows, show}
 use Rattle.laws.specs.Tests.{both-true}
-use Rattle.laws.specs.Sound.{Sound, hole-context}
+use Rattle.laws.specs.Sound.{hole-context}
 use Rattle.laws.specs.Lists.{elements-none, elements-kept}
 use Rattle.laws.specs.Members.{cell}
-use Rattle.invariants.specs.Floor.{Outside, Fine, Grows, Grown}
+use Rattle.invariants.specs.Floor.{Outside, Grows, Grown}
 use Rattle.invariants.specs.Grow.{listed-of}
 use Rattle.invariants.specs.Input.{few-cells}
 use Rattle.invariants.specs.Start.{records-few, records-room, filled-below}

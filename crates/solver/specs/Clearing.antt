@@ -1,6 +1,6 @@
 -- Where the machine starts: records n to R - 1 all zero, the first R solution words NONE.
 use Prim.Native.Nat.{ℕ, _+_, _-_, _*_, _/_, _<_, _≤_}
-use mathlib.Core.Path.{_≡_, refl, sym, _∙_}
+use mathlib.Core.Path.{_≡_}
 use mathlib.Core.List.{List}
 use native.Mathlib.Omega.{arith}
 use lib.ListN.{length}
@@ -23,9 +23,6 @@ pub record Cleared (n R : ℕ) (ws ss ws₁ ss₁ : List ℕ) : Type 0 where
   pub solutions : filled 0 R NONE ss ≡ ss₁
 
 module _ (n R : ℕ) (ws ss : List ℕ) (h : Clearing n R ws ss) where
-  pub clearing-sub : n ≤ R
-  clearing-sub = h .in-table
-
   pub clearing-table : 4 * n + 4 * (R - n) ≤ length ws
   clearing-table = let a = h .in-table in let b = h .room in omega arith
 

@@ -2,9 +2,9 @@
 use Prim.Native.Nat.{ℕ, zero, suc, _+_, _-_, _*_, _<_, _≤_}
 use mathlib.Core.Path.{_≡_, refl, sym, ap, _∙_}
 use mathlib.Core.List.{List, []}
-use mathlib.Core.Bool.{Bool, true, false}
+use mathlib.Core.Bool.{Bool, true}
 use native.Mathlib.Omega.{arith}
-use native.Mathlib.Nat.{le-refl, mul-pos}
+use native.Mathlib.Nat.{mul-pos}
 use lib.ListN.{length}
 use mir.Syntax.{w32}
 use mir.Val.{Fits}
@@ -16,9 +16,9 @@ use Rattle.rules.specs.declared.Reply.{Reply}
 use Rattle.rules.specs.Words.{NONE}
 use Rattle.rules.specs.Lists.{those, from, below}
 use Rattle.rules.specs.Answers.{number, reply, records, pairs}
-use Rattle.rules.specs.Store.{Store, Out, goes, fails, fail, _>>=_}
-use Rattle.rules.specs.Machine.{Pair, join, run, steps, equations, machine}
-use Rattle.rules.specs.Solve.{Refusal as Refuses, admitted, refused, refusal, filled, start, emptied, Behind, leaves, solve}
+use Rattle.rules.specs.Store.{Store, goes, fails, _>>=_}
+use Rattle.rules.specs.Machine.{join, run, steps, equations, machine}
+use Rattle.rules.specs.Solve.{admitted, refusal, filled, start, emptied, Behind, leaves, solve}
 use Rattle.invariants.specs.Floor.{Outside, Grows}
 use Rattle.invariants.specs.Start.{records-few, records-room, start-running}
 use Rattle.invariants.specs.Admit.{Admitted, refusal-says}
@@ -27,7 +27,6 @@ use Rattle.invariants.specs.Run.{Any}
 use Rattle.invariants.specs.Copy.{Nobody}
 use Rattle.store.specs.Said.{store}
 use Rattle.fill.specs.Filled.{filled-put, filled-again}
-use Rattle.refuse.specs.declared.Asked.{Asked}
 use Rattle.refuse.specs.declared.Asked.the-variants.{Solving}
 use Rattle.refuse.specs.declared.Refusal.{Refusal}
 use Rattle.refuse.specs.declared.Refusal.the-variants.{Admitted as Admits-all, Refused}

@@ -81,10 +81,10 @@ fn conclude(table: &mut [u32], solutions: &mut [u32], n: u32, room: u32, ran: Ra
     ensures { λ r. ⌜ Concludes n room (now (table .entry)) (now (solutions .entry)) ran (now (table .exit)) (now (solutions .exit)) r ⌝ }
 {
     match ran {
-        Ran::Solved(used) => Reply {
+        Ran::Solved(records) => Reply {
             answer: 0,
             place: 0,
-            used,
+            used: records,
         },
         Ran::Failed(failure) => {
             clear(table, solutions, n, room);

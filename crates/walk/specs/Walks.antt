@@ -1,6 +1,6 @@
 -- The walk's contracts and its big-step rules.
-use Prim.Native.Nat.{ℕ, zero, suc, _+_, _-_, _<_, _≤_}
-use mathlib.Core.Path.{_≡_, refl, sym, _∙_}
+use Prim.Native.Nat.{ℕ, suc, _+_, _-_, _<_, _≤_}
+use mathlib.Core.Path.{_≡_, sym, _∙_}
 use mathlib.Core.List.{List, _∷_}
 use native.Mathlib.Omega.{arith}
 use lib.ListN.{length, getD, length-map}
@@ -24,7 +24,7 @@ use Rattle.places.specs.Maps.{mapOf}
 use Rattle.laws.specs.Lists.{size, elements-none}
 use Rattle.places.specs.Lists.{varsOf}
 use Rattle.invariants.specs.Rise.{reach}
-use Rattle.rewrite.specs.Levels.{level-lambda, level-constant, level-escape, level-variable, level-hole, all-stops, all-goes}
+use Rattle.rewrite.specs.Levels.{fuel, level-lambda, level-constant, level-escape, level-variable, level-hole, all-stops, all-goes}
 
 -- with fuel enough, the walk of a term, of a list and of an occurrence answers so
 pub record WalksT (R n u : ℕ) (m : Map) (ws ss : List ℕ) (used F d r : ℕ) (ws₁ ss₁ : List ℕ) (x : Walked) : Type 0 where
@@ -38,10 +38,6 @@ pub record WalksL (R n u : ℕ) (m : Map) (ws ss : List ℕ) (used F d l : ℕ) 
 pub record WalksH (R n u : ℕ) (m : Map) (ws ss : List ℕ) (used F d r : ℕ) (ws₁ ss₁ : List ℕ) (x : Walked) : Type 0 where
   pub run : (f : ℕ) → reach R F r ≤ f → walkHole (walk f R u) R u (mapOf m) d r (store ws ss used) ≡ shown ws₁ ss₁ x
   pub grown : Since n x
-
-fuel : (n s : ℕ) → s < n → (k : ℕ) × (n ≡ suc k) × (s ≤ k)
-fuel zero s h = absurd (omega arith)
-fuel (suc k) s h = (k, refl, omega arith)
 
 module _ (R n u : ℕ) (m : Map) (ws ss : List ℕ) (used F d r : ℕ) where
   more : (ws₁ ss₁ : List ℕ) (x : Walked) → Since n x

@@ -3,7 +3,7 @@ use mathlib.Core.Path.{refl, _∙_}
 use borrow.Author.Needs.{needs}
 use Rattle.rules.specs.Records.{fits}
 use Rattle.fields.specs.Kinds.{field}
-use Rattle.fields.proofs.Fitting.{fits-type, fits-term, fits-base, fits-constant, fits-hole, rest-none, rest-cell, types-none, terms-none, types-some, terms-some, element-type, element-term}
+use Rattle.fields.proofs.Fitting.{fits-type, fits-term, fits-base, fits-constant, fits-hole, rest-none, rest-cell, types-none, terms-none, types-some, terms-some, element-is}
 use Rattle.fields.proofs.fits.Statement.{statement}
 use Rattle.fields.proofs.fits.Tie as tie
 
@@ -37,7 +37,6 @@ fits-spec =
     (λ c. search needs)
     (λ c κs. search needs)
     (λ c κs. search needs)
-    (λ c κs. search needs)
     (λ c. search needs)
     (λ c κs. search needs)
     (λ c. rw (c .enum-told .given .1) refl)
@@ -53,7 +52,6 @@ fits-spec =
     (λ c. rw (c .before .before .before .enum-told10 .given .1) (c .type-tag2 .ensures ∙ types-some _ _ _ _ (c .before .before .if1 .left) (c .before .element-tag .ensures)))
     (λ c. rw (c .before .enum-told11 .given .1) (terms-none _ _ _ (c .if2 .taken)))
     (λ c. rw (c .before .before .before .enum-told11 .given .1) (c .term-tag2 .ensures ∙ terms-some _ _ _ _ (c .before .before .if2 .left) (c .before .element-tag2 .ensures)))
-    (λ c. rw (c .before .before .before .enum-told12 .given .1) (element-type _ _ _ _ _ (c .before .before .tag-below6 .ensures) (c .before .type-tag3 .ensures) (c .if3 .taken)))
-    (λ c. rw (c .before .before .before .before .enum-told12 .given .1) (element-term _ _ _ _ _ _ (c .before .before .before .tag-below6 .ensures) (c .before .before .type-tag3 .ensures) (c .before .if3 .left) (c .term-tag3 .ensures)))
-    (λ c. rw (c .before .enum-told13 .given .1) (rest-none _ _ _ (c .if4 .taken)))
-    (λ c. rw (c .before .before .enum-told13 .given .1) (rest-cell _ _ _ _ (c .before .if4 .left) (c .tag-below7 .ensures))))
+    (λ c. rw (c .before .before .enum-told12 .given .1) (c .type-or-term .ensures ∙ element-is _ _ _ _ (c .before .tag-below6 .ensures)))
+    (λ c. rw (c .before .enum-told13 .given .1) (rest-none _ _ _ (c .if3 .taken)))
+    (λ c. rw (c .before .before .enum-told13 .given .1) (rest-cell _ _ _ _ (c .before .if3 .left) (c .tag-below7 .ensures))))

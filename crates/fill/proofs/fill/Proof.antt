@@ -1,3 +1,4 @@
+-- `fill::fill` meets its contract.
 use Rattle.fill.specs.Filled.{part-filled}
 use borrow.Author.Needs.{needs}
 use Rattle.fill.proofs.fill.Statement.{statement}

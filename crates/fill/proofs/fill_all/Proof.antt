@@ -1,4 +1,4 @@
--- After i turns the first i words are x and the rest is as it was.
+-- `fill::fill_all` meets its contract: after i turns the first i words are x and the rest is as it was.
 use borrow.Author.Needs.{needs}
 use native.Mathlib.Omega.{arith}
 use mathlib.Core.Path.{_≡_, refl}

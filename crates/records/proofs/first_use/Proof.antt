@@ -1,9 +1,8 @@
 -- `records::first_use` meets its contract.
 use mathlib.Core.Path.{_∙_}
-use native.Mathlib.Omega.{arith}
 use borrow.Author.Tests.{not-true, not-false}
 use borrow.Author.Needs.{needs}
-use Rattle.records.proofs.Uses.{near-a, near-b, near-c, use-a, use-b, use-c}
+use Rattle.records.proofs.Uses.{asks-a, asks-b, asks-c, use-a, use-b, use-c}
 use Rattle.records.proofs.first_use.Statement.{statement}
 use Rattle.records.proofs.first_use.Tie as tie
 
@@ -14,8 +13,7 @@ mark-requires : tie.Need-mark-requires
 mark-requires c κs =
     let x = c .before .before .read .ensures in
     let s = rw (x .tag-is) at (c .before .shape-of .ensures) in
-    let size = c .before .before .before .before .before .pre .known .size in
-    record { near = near-a _ _ _ s _ _ _ (x .a-is) (x .b-is) (x .c-is) (c .before .before .before .before .before .pre .above) (c .before .before .before .before .before .pre .so); room = omega arith }
+    asks-a _ _ _ s _ _ _ (x .a-is) (x .b-is) (x .c-is) (c .before .before .before .before .before .pre .above) (c .before .before .before .before .before .pre .so) _ (c .before .before .before .before .before .pre .known .size)
 
 same-length : tie.Need-same-length
 same-length c = c .before .before .before .mark .kept .1 .0
@@ -30,9 +28,7 @@ mark-requires-2 : tie.Need-mark-requires-2
 mark-requires-2 c κs =
     let x = c .before .before .before .before .before .before .before .read .ensures in
     let s = rw (x .tag-is) at (c .before .before .before .before .before .before .shape-of .ensures) in
-    let size = c .before .before .before .before .before .before .before .before .before .before .pre .known .size in
-    let same = c .before .before .before .before .mark .kept .1 .0 in
-    record { near = near-b _ _ _ s _ _ _ (x .a-is) (x .b-is) (x .c-is) (c .before .before .before .before .before .before .before .before .before .before .pre .above) (c .before .before .before .before .before .before .before .before .before .before .pre .so); room = omega arith }
+    asks-b _ _ _ s _ _ _ (x .a-is) (x .b-is) (x .c-is) (c .before .before .before .before .before .before .before .before .before .before .pre .above) (c .before .before .before .before .before .before .before .before .before .before .pre .so) _ (c .before .before .before .before .mark .kept .1 .0 ∙ c .before .before .before .before .before .before .before .before .before .before .pre .known .size)
 
 same-length-2 : tie.Need-same-length-2
 same-length-2 c = c .before .before .before .mark2 .kept .1 .0 ∙ c .before .before .before .before .before .before .before .before .mark .kept .1 .0
@@ -47,10 +43,7 @@ mark-requires-3 : tie.Need-mark-requires-3
 mark-requires-3 c κs =
     let x = c .before .before .before .before .before .before .before .before .before .before .before .before .read .ensures in
     let s = rw (x .tag-is) at (c .before .before .before .before .before .before .before .before .before .before .before .shape-of .ensures) in
-    let size = c .before .before .before .before .before .before .before .before .before .before .before .before .before .before .before .pre .known .size in
-    let same = c .before .before .before .before .before .before .before .before .before .mark .kept .1 .0 in
-    let same₂ = c .before .before .before .before .mark2 .kept .1 .0 in
-    record { near = near-c _ _ _ s _ _ _ (x .a-is) (x .b-is) (x .c-is) (c .before .before .before .before .before .before .before .before .before .before .before .before .before .before .before .pre .above) (c .before .before .before .before .before .before .before .before .before .before .before .before .before .before .before .pre .so); room = omega arith }
+    asks-c _ _ _ s _ _ _ (x .a-is) (x .b-is) (x .c-is) (c .before .before .before .before .before .before .before .before .before .before .before .before .before .before .before .pre .above) (c .before .before .before .before .before .before .before .before .before .before .before .before .before .before .before .pre .so) _ (c .before .before .before .before .mark2 .kept .1 .0 ∙ c .before .before .before .before .before .before .before .before .before .mark .kept .1 .0 ∙ c .before .before .before .before .before .before .before .before .before .before .before .before .before .before .before .pre .known .size)
 
 same-length-3 : tie.Need-same-length-3
 same-length-3 c = c .before .before .mark3 .kept .1 .0 ∙ c .before .before .before .before .before .before .before .mark2 .kept .1 .0 ∙ c .before .before .before .before .before .before .before .before .before .before .before .before .mark .kept .1 .0

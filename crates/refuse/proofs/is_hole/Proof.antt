@@ -1,4 +1,5 @@
-use Rattle.refuse.specs.Refusing.{hole-read, hole-fits, hole-within, hole-past}
+-- `refuse::is_hole` meets its contract.
+use Rattle.refuse.specs.Refusing.{hole-within, hole-past}
 use borrow.Author.Needs.{needs}
 use Rattle.refuse.proofs.is_hole.Statement.{statement}
 use Rattle.refuse.proofs.is_hole.Tie as tie

@@ -1,4 +1,5 @@
-use Rattle.refuse.specs.Refusing.{above-room, few-solutions, all-admitted, in-table, number-fits, searched}
+-- `refuse::refuse` meets its contract.
+use Rattle.refuse.specs.Refusing.{above-room, few-solutions, all-admitted, in-table, searched}
 use borrow.Author.Needs.{needs}
 use Rattle.refuse.proofs.refuse.Statement.{statement}
 use Rattle.refuse.proofs.refuse.Tie as tie

@@ -1,3 +1,4 @@
+-- `refuse::refuse_asked` meets its contract.
 use Rattle.refuse.specs.Refusing.{asking-solve, asking-hole, asking-none}
 use borrow.Author.Needs.{needs}
 use Rattle.refuse.proofs.refuse_asked.Statement.{statement}

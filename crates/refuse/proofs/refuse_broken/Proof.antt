@@ -1,3 +1,4 @@
+-- `refuse::refuse_broken` meets its contract.
 use Rattle.refuse.specs.Refusing.{legal, broken-at, none-broken}
 use borrow.Author.Needs.{needs}
 use Rattle.refuse.proofs.refuse_broken.Statement.{statement}

@@ -1,3 +1,4 @@
+-- `refuse::refuse_terms` meets its contract.
 use Rattle.refuse.specs.Refusing.{ill-typed-at, no-pattern-at, typed-all}
 use borrow.Author.Needs.{needs}
 use Rattle.refuse.proofs.refuse_terms.Statement.{statement}

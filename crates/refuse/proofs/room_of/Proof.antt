@@ -1,3 +1,4 @@
+-- `refuse::room_of` meets its contract.
 use Rattle.refuse.specs.Refusing.{room-less, room-most}
 use borrow.Author.Needs.{needs}
 use Rattle.refuse.proofs.room_of.Statement.{statement}

@@ -1,4 +1,4 @@
-use borrow.Author.Needs.{needs}
+-- `show::in_order`, which calls itself, meets its contract.
 use Prim.Native.Nat.{_-_}
 use Rattle.show.specs.Answer.{ordering-add, ordering-next, ordering-fall, ordering-rest, ordered-end, ordered-more}
 use Prim.Native.Nat.{ℕ, _<_}

@@ -1,3 +1,4 @@
+-- `show_args`, `show_hole` and `show_term` of `show`, which call each other, meet their contracts.
 use borrow.Author.Needs.{needs}
 use Prim.Native.Nat.{suc}
 use Rattle.laws.specs.Lists.{size}

@@ -1,3 +1,4 @@
+-- `show::answer` meets its contract.
 use Rattle.show.specs.Answer.{answer-read, answer-counts, answer-orders, answer-ready, answered}
 use borrow.Author.Needs.{needs}
 use Rattle.show.proofs.answer.Statement.{statement}

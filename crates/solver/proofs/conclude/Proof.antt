@@ -1,3 +1,4 @@
+-- `solver::conclude` meets its contract.
 use Rattle.solver.specs.Running.{concludes-solved, concludes-failed}
 use borrow.Author.Needs.{needs}
 use Rattle.solver.proofs.conclude.Statement.{statement}

@@ -1,3 +1,4 @@
+-- `solver::finish` meets its contract.
 use Rattle.solver.specs.Answering.{finishes-root, finishes-failed}
 use borrow.Author.Needs.{needs}
 use Rattle.solver.proofs.finish.Statement.{statement}

@@ -1,3 +1,4 @@
+-- `solver::leave` meets its contract.
 use Rattle.solver.specs.Running.{admits, admits-fits, left-refused, left-admitted}
 use borrow.Author.Needs.{needs}
 use Rattle.solver.proofs.leave.Statement.{statement}

@@ -1,3 +1,4 @@
+-- `solver::number_of` meets its contract.
 use Rattle.solver.specs.Running.{is-clash, is-escape, is-occurs, is-queue-full, is-table-full}
 use borrow.Author.Needs.{needs}
 use Rattle.solver.proofs.number_of.Statement.{statement}

@@ -1,3 +1,4 @@
+-- `solver::pairs_of` meets its contract.
 use Rattle.solver.specs.Clearing.{pairs-less, pairs-most}
 use Rattle.solver.proofs.pairs_of.Statement.{statement}
 use Rattle.solver.proofs.pairs_of.Tie as tie

@@ -1,3 +1,4 @@
+-- `solver::run` meets its contract.
 use Rattle.solver.specs.Clearing.{pairs-fit, pairs-filled}
 use Rattle.solver.specs.Running.{admits-clearing, admits-started, admits-concluding, left}
 use borrow.Author.Needs.{needs}

@@ -1,3 +1,4 @@
+-- `solver::run_machine` meets its contract.
 use Rattle.solver.specs.Running.{started-part, machines}
 use borrow.Author.Needs.{needs}
 use Rattle.solver.proofs.run_machine.Statement.{statement}

@@ -1,3 +1,4 @@
+-- `solver::show` meets its contract.
 use Rattle.solver.specs.Answering.{show-refused, show-answered, answerable, hole-fits}
 use borrow.Author.Needs.{needs}
 use Rattle.solver.proofs.show.Statement.{statement}

@@ -1,3 +1,4 @@
+-- `solver::solve` meets its contract.
 use Rattle.solver.specs.Running.{solves}
 use borrow.Author.Needs.{needs}
 use Rattle.solver.proofs.solve.Statement.{statement}

@@ -1,3 +1,4 @@
+-- `solver::write_answer` meets its contract.
 use Rattle.solver.specs.Answering.{blank-fits, answers, finishing, writes}
 use borrow.Author.Needs.{needs}
 use Rattle.solver.proofs.write_answer.Statement.{statement}

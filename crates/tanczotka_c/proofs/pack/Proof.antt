@@ -1,3 +1,4 @@
+-- `tanczotka_c::pack` meets its contract.
 use Rattle.tanczotka_c.specs.Packed.{packs}
 use borrow.Author.Needs.{needs}
 use Rattle.tanczotka_c.proofs.pack.Statement.{statement}

@@ -1,0 +1,35 @@
+-- `replay::file_problem` meets its contract.
+use mathlib.Core.Path.{sym}
+use native.Mathlib.Omega.{arith}
+use borrow.Author.Needs.{needs}
+use lib.ListN.{length-take}
+use lib.Seq.{length-take-le}
+use Rattle.replay.proofs.file_problem.Statement.{statement}
+use Rattle.replay.proofs.file_problem.Tie as tie
+
+pub file-problem-spec : {M : Type 1} → statement M
+file-problem-spec =
+    tie.close
+    (tie.spec
+    (λ c. search needs)
+    (λ c κs. search needs)
+    (λ c. search needs)
+    (λ c. search needs)
+    (λ c κs. search needs)
+    (λ c. search needs)
+    (λ c. search needs)
+    (λ c κs. search needs)
+    (λ c. search needs)
+    (λ c. search needs)
+    (λ c. search needs)
+    (λ c. search needs)
+    (λ c. search needs)
+    (λ c. search needs)
+    (λ c κs. search needs)
+    (λ c. search needs)
+    (λ c. search needs)
+    (λ c. search needs)
+    (λ c. sym (length-take-le _ _ (search needs)))
+    (λ c κs. simp length-take (omega arith))
+    (λ c. search needs)
+    (λ c. search needs))

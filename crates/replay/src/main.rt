@@ -1,0 +1,182 @@
+// Replays stored problems: each is read from standard input, as `independent replay-in` writes it, and the replies and every word that
+// solve, show and read leave are printed.
+use rules::Reply;
+use stored::fill;
+use stored::print_reply;
+use stored::print_words;
+use stored::read_bytes;
+use stored::word;
+ghost use Prim.Native.Nat.{_+_, _*_, _≤_};
+ghost use lib.ListN.{length};
+ghost use mathlib.Core.Path.{_≡_};
+
+// The words of a problem from its bytes; the number of the next word.
+fn start(bytes: &[u8], table: &mut [u32], solutions: &mut [u32], queue: &mut [u32]) -> usize
+    requires { ⌜ 4 * (length (now table) + length (now solutions) + length (now queue)) ≤ length (now bytes) ⌝ }
+    ensures { λ r. ⌜ r ≡ length (now (table .entry)) + length (now (solutions .entry)) + length (now (queue .entry)) ⌝ }
+{
+    let second = fill(bytes, 0, table);
+    let third = fill(bytes, second, solutions);
+    fill(bytes, third, queue)
+}
+
+// What solve or show replies, and the words that it leaves.
+fn print_left(
+    line: &mut [u8],
+    name: &[u8],
+    reply: Reply,
+    table: &[u32],
+    solutions: &[u32],
+    queue: &[u32],
+) {
+    print_reply(line, name, reply);
+    print_words(line, b"table", table);
+    print_words(line, b"solutions", solutions);
+    print_words(line, b"queue", queue);
+}
+
+// A problem is solved.
+fn solve(
+    line: &mut [u8],
+    bytes: &[u8],
+    n: usize,
+    table: &mut [u32],
+    solutions: &mut [u32],
+    queue: &mut [u32],
+)
+    requires { ⌜ 4 * (length (now table) + length (now solutions) + length (now queue)) ≤ length (now bytes) ⌝ }
+{
+    start(bytes, table, solutions, queue);
+    let reply = solver::solve(table, n, solutions, queue);
+    print_left(line, b"solve", reply, table, solutions, queue);
+}
+
+// A hole of a problem is shown.
+fn show(
+    line: &mut [u8],
+    bytes: &[u8],
+    n: usize,
+    hole: usize,
+    table: &mut [u32],
+    solutions: &mut [u32],
+    queue: &mut [u32],
+    output: &mut [u32],
+)
+    requires { ⌜ 4 * (length (now table) + length (now solutions) + length (now queue) + length (now output)) ≤ length (now bytes) ⌝ }
+{
+    let last = start(bytes, table, solutions, queue);
+    fill(bytes, last, output);
+    let reply = solver::show(table, n, solutions, queue, hole, output);
+    print_left(line, b"show", reply, table, solutions, queue);
+}
+
+// A problem is solved, and a hole of it is shown from the words before.
+fn solve_and_show(
+    line: &mut [u8],
+    bytes: &[u8],
+    n: usize,
+    hole: usize,
+    table: &mut [u32],
+    solutions: &mut [u32],
+    queue: &mut [u32],
+    output: &mut [u32],
+)
+    requires { ⌜ 4 * (length (now table) + length (now solutions) + length (now queue) + length (now output)) ≤ length (now bytes) ⌝ }
+{
+    solve(line, bytes, n, table, solutions, queue);
+    show(line, bytes, n, hole, table, solutions, queue, output);
+    print_words(line, b"output", output);
+}
+
+// A problem of the first kind; false where it has more words than there is room for, or is cut off.
+fn problem(line: &mut [u8]) -> bool {
+    let mut head = [0u8; 24];
+    if !read_bytes(&mut head, 24) {
+        return false;
+    }
+    let n = word(&head, 0) as usize;
+    let hole = word(&head, 1) as usize;
+    let t = word(&head, 2) as usize;
+    let s = word(&head, 3) as usize;
+    let q = word(&head, 4) as usize;
+    let o = word(&head, 5) as usize;
+    let count = t + s + q + o;
+    if 24000 < count {
+        return false;
+    }
+    let mut bytes = [0u8; 96000];
+    if !read_bytes(&mut bytes, 4 * count) {
+        return false;
+    }
+    let mut table = [0u32; 24000];
+    let mut solutions = [0u32; 24000];
+    let mut queue = [0u32; 24000];
+    let mut output = [0u32; 24000];
+    solve_and_show(
+        line,
+        &bytes,
+        n,
+        hole,
+        &mut table[..t],
+        &mut solutions[..s],
+        &mut queue[..q],
+        &mut output[..o],
+    );
+    true
+}
+
+// A file, the first f of the bytes, is read into a table, whose words stand from word `first` on.
+fn read(line: &mut [u8], bytes: &[u8], f: usize, first: usize, table: &mut [u32])
+    requires { ⌜ (f ≤ length (now bytes)) × (4 * (first + length (now table)) ≤ length (now bytes)) ⌝ }
+{
+    fill(bytes, first, table);
+    let reply = file::read(&bytes[..f], table);
+    print_reply(line, b"read", reply);
+    print_words(line, b"table", table);
+}
+
+// A problem of the second kind; false where it has more words than there is room for, or is cut off.
+fn file_problem(line: &mut [u8]) -> bool {
+    let mut head = [0u8; 8];
+    if !read_bytes(&mut head, 8) {
+        return false;
+    }
+    let f = word(&head, 0) as usize;
+    let t = word(&head, 1) as usize;
+    let first = (f + 3) / 4;
+    let count = first + t;
+    if 24000 < count {
+        return false;
+    }
+    let mut bytes = [0u8; 96000];
+    if !read_bytes(&mut bytes, 4 * count) {
+        return false;
+    }
+    let mut table = [0u32; 24000];
+    read(line, &bytes, f, first, &mut table[..t]);
+    true
+}
+
+// One problem is replayed; false at the end of the input.
+fn replay(line: &mut [u8]) -> bool {
+    let mut kind = [0u8; 4];
+    if !read_bytes(&mut kind, 4) {
+        return false;
+    }
+    match word(&kind, 0) {
+        1 => problem(line),
+        2 => file_problem(line),
+        _ => false,
+    }
+}
+
+fn main() {
+    let mut line = [0u8; 270000];
+    let mut left = 1000000u32;
+    while 0 < left {
+        if !replay(&mut line) {
+            return;
+        }
+        left -= 1;
+    }
+}

@@ -1,0 +1,1 @@
+pub mod Line  -- the line of a hole: what show wrote can be printed
