@@ -1,6 +1,6 @@
 -- A search record by record: what is known while the lower records are passed.
-use Prim.Native.Nat.{ℕ, suc, _+_, _-_, _<_, _≤_}
-use mathlib.Core.Path.{_≡_}
+use Prim.Native.Nat.{ℕ, zero, suc, _+_, _-_, _<_, _≤_}
+use mathlib.Core.Path.{_≡_, refl}
 use mathlib.Core.Bool.{Bool, true, false}
 use native.Mathlib.Omega.{arith}
 use Rattle.rules.specs.declared.Found.{Found}
@@ -31,3 +31,17 @@ module _ (n : ℕ) (ok : ℕ → Bool) where
     pub ahead-end : n ≤ i → ahead n ok i ≡ Nowhere
     unfolding ahead first
     ahead-end h = let e : n - i ≡ 0 = omega arith in rw e
+
+first-below : (k : ℕ) (ok : ℕ → Bool) (i r : ℕ) → first k ok i ≡ At r → r < i + k
+unfolding first
+first-below zero ok i r e = absurd (let z : Nowhere ≡ At r = e in let y : _≡_ {A = ℕ} 0 1 = cc in omega arith)
+first-below (suc k) ok i r e = go (ok i) refl (first-below k ok (i + 1) r)
+  where
+    go : (b : Bool) → ok i ≡ b → (first k ok (i + 1) ≡ At r → r < i + 1 + k) → r < i + suc k
+    go true q ih = let z : At i ≡ At r = (rw (q, first) at e) in let y : i ≡ r = cc in omega arith
+    go false q ih = let l = ih (rw (q, first) at e) in omega arith
+
+-- what is found is below n
+pub lowest-below : (n : ℕ) (ok : ℕ → Bool) (r : ℕ) → lowest n ok ≡ At r → r < n
+unfolding lowest
+lowest-below n ok r e = let l = first-below n ok 0 r e in omega arith

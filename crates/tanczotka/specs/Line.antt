@@ -1,6 +1,6 @@
 -- The line of a hole: what show wrote can be printed.
 use Prim.Native.Nat.{ℕ, _-_, _<_, _≤_}
-use mathlib.Core.Path.{_≡_, sym, ap, _∙_}
+use mathlib.Core.Path.{_≡_, ap, _∙_}
 use mathlib.Core.List.{List}
 use mathlib.Core.Bool.{true}
 use native.Mathlib.Omega.{arith}
@@ -90,6 +90,3 @@ module _ (ws ss qs os : List ℕ) (n h : ℕ) (ws₁ ss₁ qs₁ os₁ : List �
 -- what is read into a table of 4,096 records
 pub read-holds : (bs ws ws₁ : List ℕ) (r : Reply) → read bs ws ≡ record { table = ws₁; said = r } → length ws ≡ 16384 → length ws₁ ≡ length ws → Holds ws₁ (r .used)
 read-holds bs ws ws₁ r e k l = record { long = l ∙ k; few = read-used bs ws ws₁ r e }
-
-pub holds-long : (ws : List ℕ) (n : ℕ) → Holds ws n → 16384 ≡ length ws
-holds-long ws n h = sym (h .long)

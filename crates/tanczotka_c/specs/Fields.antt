@@ -11,7 +11,7 @@ use borrow.Author.Tests.{eqb-true, eqb-false, ltb-false}
 use Rattle.rules.specs.declared.Found.{Found}
 use Rattle.rules.specs.declared.Found.the-variants.{At, Nowhere}
 use Rattle.rules.specs.declared.Reply.{Reply}
-use Rattle.rules.specs.Lists.{both, either, least, those, from, below, first, lowest, enough}
+use Rattle.rules.specs.Lists.{both, either, least, those, from, below, lowest, enough}
 use Rattle.rules.specs.Words.{NONE, LA, HO, EQ, tag, fieldA, fieldB, has, isTerm, arguments}
 use Rattle.rules.specs.Answers.{records, pairs}
 use Rattle.rules.specs.Records.{broken}
@@ -23,6 +23,7 @@ use Rattle.rules.specs.Solve.{admitted, refusal, start, Behind, leaves, solve}
 use Rattle.rules.specs.Show.{answer as answerOf, shows, show}
 use Rattle.rules.specs.File.{read, marked, isKnown}
 use Rattle.laws.specs.Sound.{Sound, broken-none, lambda-field, equation-fields}
+use Rattle.laws.specs.Search.{lowest-below}
 use Rattle.laws.specs.Members.{Every, none, more, every-so}
 use Rattle.laws.specs.Forms.{Term, is-lambda, is-constant, is-variable, is-hole, term-of, offence-lambda, offence-constant, offence-variable, offence-hole}
 use Rattle.laws.specs.Unrolled.{arguments-every}
@@ -40,21 +41,6 @@ pub record Fields (r : Reply) : Type 0 where
 low-fields : (r : Reply) → r .answer < 65536 → r .place < 65536 → r .used ≤ 4096 → Fields r
 unfolding packed
 low-fields r a p u = record { answer = omega arith; place = omega arith; used = omega arith }
-
--- What a search finds is below its bound
-
-first-below : (k : ℕ) (ok : ℕ → Bool) (i r : ℕ) → first k ok i ≡ At r → r < i + k
-unfolding first
-first-below zero ok i r e = absurd (let z : Nowhere ≡ At r = e in let y : _≡_ {A = ℕ} 0 1 = cc in omega arith)
-first-below (suc k) ok i r e = go (ok i) refl (first-below k ok (i + 1) r)
-  where
-    go : (b : Bool) → ok i ≡ b → (first k ok (i + 1) ≡ At r → r < i + 1 + k) → r < i + suc k
-    go true q ih = let z : At i ≡ At r = (rw (q, first) at e) in let y : i ≡ r = cc in omega arith
-    go false q ih = let l = ih (rw (q, first) at e) in omega arith
-
-lowest-below : (n : ℕ) (ok : ℕ → Bool) (r : ℕ) → lowest n ok ≡ At r → r < n
-unfolding lowest
-lowest-below n ok r e = let l = first-below n ok 0 r e in omega arith
 
 -- An offending occurrence is a record below n
 
