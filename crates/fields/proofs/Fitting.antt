@@ -5,35 +5,15 @@ use mathlib.Core.Bool.{Bool, true, false}
 use mathlib.Core.List.{List}
 use native.Mathlib.Omega.{arith}
 use native.Mathlib.Decide.{ℕ-discrete}
-use lib.ListN.{length, getD, List·getD-eq-default}
+use lib.ListN.{length}
 use lib.Dec.{eqb, ltb, leb}
 use borrow.Author.Tests.{ltb-true, ne-eqb, eq-eqb, lt-ltb, lt-leb, le-leb, le-ltb}
 use Rattle.rules.specs.Lists.{both, either}
-use Rattle.rules.specs.Words.{NONE, BT, KO, HO, CE, tag, fieldA, fieldB, fieldC, has, isType, isTerm}
-use Rattle.rules.specs.Records.{never, shapes, shape, listOf, fits, shaped}
+use Rattle.rules.specs.Words.{NONE, BT, KO, HO, CE, tag, fieldA, has, isType, isTerm}
+use Rattle.rules.specs.Records.{listOf, fits}
 use Rattle.laws.specs.Sound.{cell-element}
-use Rattle.fields.specs.declared.Field.{Field}
-use Rattle.fields.specs.declared.Field.the-variants.{Never, OfType, OfBase, OfConstant, OfHole, OfTerm, Types, Terms, Element, Rest}
-use Rattle.fields.specs.declared.Shape.{Shape}
-use Rattle.fields.specs.Kinds.{field, IsShape, typeTag, termTag, tagBelow, elementTag, Above}
-
--- The table
-
-pub row-is : (s : Shape) (a b c : Field) (k : ℕ) → (s .a ≡ a) × (s .b ≡ b) × (s .c ≡ c)
-    → (field a ≡ getD shapes k (never, never, never) .0) → (field b ≡ getD shapes k (never, never, never) .1) → (field c ≡ getD shapes k (never, never, never) .2) → IsShape k s
-row-is s a b c k h ea eb ec = record { a-is = ap field (h .0) ∙ ea; b-is = ap field (h .1) ∙ eb; c-is = ap field (h .2) ∙ ec }
-
-unknown : (k : ℕ) → Dec (k ≡ 0) → (0 < k → 10 < k) → getD shapes k (never, never, never) ≡ (never, never, never)
-unfolding shapes
-unknown k (yes e) h = rw e
-unknown k (no z) h = let l : 10 < k = h (omega arith) in let m : length shapes ≤ k = omega arith in List·getD-eq-default shapes (never, never, never) m
-
-pub past : (k m : ℕ) → m ≤ k → (k ≡ m → ⊥) → m + 1 ≤ k
-past k m h n = omega arith
-
-pub row-unknown : (s : Shape) (k : ℕ) → (s .a ≡ Never) × (s .b ≡ Never) × (s .c ≡ Never) → (0 < k → 10 < k) → IsShape k s
-unfolding field
-row-unknown s k h l = let e = sym (unknown k (ℕ-discrete k 0) l) in row-is s Never Never Never k h (ap (λ q. q .0) e) (ap (λ q. q .1) e) (ap (λ q. q .2) e)
+use Rattle.fields.specs.declared.Field.the-variants.{OfType, OfBase, OfConstant, OfHole, OfTerm, Types, Terms, Element, Rest}
+use Rattle.fields.specs.Kinds.{field, typeTag, termTag, tagBelow, elementTag, Above}
 
 -- Tags
 
@@ -186,24 +166,3 @@ module _ (ws : List ℕ) (r x : ℕ) where
       go : (b : Bool) → ltb x r ≡ b → either (typeTag (tagBelow ws r x)) (termTag (tagBelow ws r x)) ≡ both (ltb x r) (either (isType ws x) (isTerm ws x))
       go true q = rw (q, tagBelow)
       go false q = rw (q, tagBelow)
-
--- All fields of a record
-
-module _ (ws : List ℕ) (r : ℕ) (s : Shape) (i : IsShape (tag ws r) s) (a b c : ℕ) (ea : a ≡ fieldA ws r) (eb : b ≡ fieldB ws r) (ec : c ≡ fieldC ws r) where
-  pub shaped-is : shaped ws r ≡ both (fits ws r (field (s .a)) a) (both (fits ws r (field (s .b)) b) (fits ws r (field (s .c)) c))
-  unfolding shaped shape
-  shaped-is = rw (i .a-is, i .b-is, i .c-is, ea, eb, ec)
-
-  module _ (x : Bool) (ex : x ≡ fits ws r (field (s .a)) a) where
-    pub shaped-a : x ≡ false → false ≡ shaped ws r
-    unfolding both
-    shaped-a t = sym (shaped-is ∙ rw (← ex, t))
-
-    module _ (t : x ≡ true) (y : Bool) (ey : y ≡ fits ws r (field (s .b)) b) where
-      pub shaped-b : y ≡ false → false ≡ shaped ws r
-      unfolding both
-      shaped-b u = sym (shaped-is ∙ rw (← ex, t, ← ey, u))
-
-      pub shaped-c : (z : Bool) → y ≡ true → z ≡ fits ws r (field (s .c)) c → z ≡ shaped ws r
-      unfolding both
-      shaped-c z u ez = sym (shaped-is ∙ rw (← ex, t, ← ey, u, ← ez))

@@ -7,12 +7,11 @@ use lib.ListN.{length, getD}
 use lib.Dec.{eqb, ltb, leb}
 use Rattle.rules.specs.Lists.{both}
 use Rattle.rules.specs.Words.{CE, tag, fieldA}
-use Rattle.rules.specs.Records.{never, nil, any-number, small, type, base, constant, hole, term, types, terms, element, rest, shapes}
+use Rattle.rules.specs.Records.{nil, any-number, small, type, base, constant, hole, term, types, terms, element, rest}
 use Rattle.rules.specs.Records as rule
 use Rattle.laws.specs.Sound.{Sound}
 use Rattle.fields.specs.declared.Field.{Field}
-use Rattle.fields.specs.declared.Field.the-variants.{Never, Nil, Any, Small, OfType, OfBase, OfConstant, OfHole, OfTerm, Types, Terms, Element, Rest}
-use Rattle.fields.specs.declared.Shape.{Shape}
+use Rattle.fields.specs.declared.Field.the-variants.{Nil, Any, Small, OfType, OfBase, OfConstant, OfHole, OfTerm, Types, Terms, Element, Rest}
 
 -- record r lies in the table, and all lower records keep the rules
 pub record Above (ws : List ℕ) (r : ℕ) : Type 0 where
@@ -22,7 +21,6 @@ pub record Above (ws : List ℕ) (r : ℕ) : Type 0 where
 
 -- the rules' name of each kind
 unfoldable pub field : Field → rule.Field
-field Never = never
 field Nil = nil
 field Any = any-number
 field Small = small
@@ -35,12 +33,6 @@ field Types = types
 field Terms = terms
 field Element = element
 field Rest = rest
-
--- s is what the table says of tag k
-pub record IsShape (k : ℕ) (s : Shape) : Type 0 where
-  pub a-is : field (s .a) ≡ getD shapes k (never, never, never) .0
-  pub b-is : field (s .b) ≡ getD shapes k (never, never, never) .1
-  pub c-is : field (s .c) ≡ getD shapes k (never, never, never) .2
 
 -- the tag of a type
 unfoldable pub typeTag : ℕ → Bool

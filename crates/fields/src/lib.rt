@@ -1,4 +1,4 @@
-// The table of the records section: what each field of a record can hold, and whether a record's fields are so.
+// What each kind of field in the records section's table can hold.
 use table::AR;
 use table::BT;
 use table::CE;
@@ -12,12 +12,11 @@ ghost use mathlib.Core.Path.{_≡_};
 ghost use Prim.Native.Nat.{_+_, _*_, _<_};
 ghost use lib.ListN.{length};
 ghost use Rattle.rules.specs.Lists.{either};
-ghost use Rattle.rules.specs.Records.{fits, shaped};
-ghost use Rattle.fields.specs.Kinds.{field, IsShape, typeTag, termTag, tagBelow, elementTag, Above};
+ghost use Rattle.rules.specs.Records.{fits};
+ghost use Rattle.fields.specs.Kinds.{field, typeTag, termTag, tagBelow, elementTag, Above};
 
 // What a field can hold: the kinds of the records section's table.
 pub enum Field {
-    Never,
     Nil,
     Any,
     Small,
@@ -30,39 +29,6 @@ pub enum Field {
     Terms,
     Element,
     Rest,
-}
-
-// What the fields a, b and c of a record are.
-pub struct Shape {
-    pub a: Field,
-    pub b: Field,
-    pub c: Field,
-}
-
-// One row of the table.
-fn row(a: Field, b: Field, c: Field) -> Shape
-    ensures { λ s. ⌜ (s .a ≡ a) × (s .b ≡ b) × (s .c ≡ c) ⌝ }
-{
-    Shape { a, b, c }
-}
-
-// The table of the records section, by tag; of an unknown tag none is right.
-pub fn shape_of(k: u32) -> Shape
-    ensures { λ s. ⌜ IsShape k s ⌝ }
-{
-    match k {
-        1 => row(Field::Any, Field::Nil, Field::Nil),
-        2 => row(Field::OfType, Field::OfType, Field::Nil),
-        3 => row(Field::OfType, Field::Nil, Field::Nil),
-        4 => row(Field::Types, Field::OfBase, Field::Nil),
-        5 => row(Field::Element, Field::Rest, Field::Nil),
-        6 => row(Field::OfTerm, Field::Nil, Field::Nil),
-        7 => row(Field::OfConstant, Field::Terms, Field::Nil),
-        8 => row(Field::Small, Field::Terms, Field::Nil),
-        9 => row(Field::OfHole, Field::Terms, Field::Nil),
-        10 => row(Field::OfTerm, Field::OfTerm, Field::OfType),
-        _ => row(Field::Never, Field::Never, Field::Never),
-    }
 }
 
 // A type is tag 1 or 2.
@@ -114,12 +80,11 @@ fn element_tag(table: &[u32], r: u32, x: u32) -> u32
 }
 
 // A number may stand in such a field of record r: every reference goes to a lower record number of the right kind.
-fn fits(table: &[u32], r: u32, f: Field, x: u32) -> bool
+pub fn fits(table: &[u32], r: u32, f: Field, x: u32) -> bool
     requires { ⌜ Above (now table) r ⌝ }
     ensures { λ b. ⌜ b ≡ fits (now (table .entry)) r (field f) x ⌝ }
 {
     match f {
-        Field::Never => false,
         Field::Nil => x == 0,
         Field::Any => true,
         Field::Small => x < 4096,
@@ -151,23 +116,4 @@ fn fits(table: &[u32], r: u32, f: Field, x: u32) -> bool
             }
         }
     }
-}
-
-// All three fields are as the table says.
-pub fn shaped(table: &[u32], r: u32) -> bool
-    requires { ⌜ Above (now table) r ⌝ }
-    ensures { λ b. ⌜ b ≡ shaped (now (table .entry)) r ⌝ }
-{
-    let x = read(table, r);
-    let s = shape_of(x.tag);
-    let a = s.a;
-    if !fits(table, r, a, x.a) {
-        return false;
-    }
-    let b = s.b;
-    if !fits(table, r, b, x.b) {
-        return false;
-    }
-    let c = s.c;
-    fits(table, r, c, x.c)
 }

@@ -1,92 +1,23 @@
--- Types are new: the types met so far, and a search among them.
-use Prim.Native.Nat.{ℕ, zero, suc, _+_, _<_, _≤_}
+-- Types are new: equal types have equal b, so a search goes down one chain.
+use Prim.Native.Nat.{ℕ, zero, suc, _+_, _-_, _<_, _≤_}
 use mathlib.Core.Path.{_≡_, refl, sym, ap, _∙_}
 use mathlib.Core.Bool.{Bool, true, false, not}
-use mathlib.Core.List.{List, [], _∷_, _++_}
+use mathlib.Core.List.{List}
 use native.Mathlib.Omega.{arith}
 use native.Mathlib.Numerals.{add-one}
-use borrow.Author.Tests.{eq-eqb, ne-eqb}
-use lib.ListN.{length, getD, set, take, drop, length-set, length-take}
-use lib.Seq.{drop-cons, drop-length, take-suc-set, getD-take}
+use native.Mathlib.Decide.{ℕ-discrete}
+use borrow.Author.Tests.{eq-eqb, ne-eqb, eqb-true}
+use lib.ListN.{length, getD, set, length-set}
+use lib.Seq.{getD-set-same, getD-set-other}
 use lib.Dec.{eqb}
-use Rattle.rules.specs.declared.Found.the-variants.{At, Nowhere}
-use Rattle.rules.specs.Lists.{both, either, all, those, from, below}
+use Rattle.rules.specs.Lists.{both, either, all, from, below}
 use Rattle.rules.specs.Words.{tag, fieldA, fieldB, has, isType}
 use Rattle.rules.specs.Records.{new-type}
-use Rattle.laws.specs.Tests.{false-true}
-use Rattle.laws.specs.Members.{Every, none, more, every-at}
+use Rattle.laws.specs.Tests.{false-true, both-true}
 use Rattle.table.specs.declared.Record.{Record}
 use Rattle.table.specs.Reading.{IsRecord}
-use Rattle.fields.specs.Kinds.{typeTag}
-use Rattle.records.specs.Marks.{equals, Types, TypeAsks, RecordAsks, TypeSays}
-
--- Numbers below r
-
-from-more : (k i : ℕ) → from i (suc k) ≡ from i k ++ ((i + k) ∷ [])
-unfolding from
-from-more zero i = let e : i + 0 ≡ i = omega arith in rw e
-from-more (suc k) i = let e : i + suc k ≡ i + 1 + k = omega arith in rw (e, from-more k (i + 1))
-
-pub below-more : (r : ℕ) → below (r + 1) ≡ below r ++ (r ∷ [])
-unfolding below
-below-more r = let z : 0 + r ≡ r = omega arith in rw add-one (rw z at (from-more r 0))
-
-pub those-append : (ok : ℕ → Bool) (xs ys : List ℕ) → those ok (xs ++ ys) ≡ those ok xs ++ those ok ys
-unfolding those
-those-append ok [] ys = refl
-those-append ok (x ∷ xs) ys = go (ok x) refl (those-append ok xs ys)
-  where
-    go : (b : Bool) → ok x ≡ b → those ok (xs ++ ys) ≡ those ok xs ++ those ok ys → those ok ((x ∷ xs) ++ ys) ≡ those ok (x ∷ xs) ++ those ok ys
-    go true q ih = rw (q, those, ih)
-    go false q ih = rw (q, those, ih)
-
-those-low : (ok : ℕ → Bool) (k i r : ℕ) → i + k ≤ r → Every (λ j. j < r) (those ok (from i k))
-unfolding those from
-those-low ok zero i r h = none
-those-low ok (suc k) i r h = go (ok i) refl (those-low ok k (i + 1) r (omega arith))
-  where
-    go : (b : Bool) → ok i ≡ b → Every (λ j. j < r) (those ok (from (i + 1) k)) → Every (λ j. j < r) (those ok (from i (suc k)))
-    go true q ih = let l : i < r = omega arith in rw (q, those) (more l ih)
-    go false q ih = rw (q, those) ih
-
-all-those : (ok p : ℕ → Bool) → ((j : ℕ) → p j ≡ false → ok j ≡ true) → (xs : List ℕ) → all ok xs ≡ all ok (those p xs)
-unfolding all those both
-all-those ok p h [] = refl
-all-those ok p h (x ∷ xs) = go (p x) refl (all-those ok p h xs)
-  where
-    go : (b : Bool) → p x ≡ b → all ok xs ≡ all ok (those p xs) → all ok (x ∷ xs) ≡ all ok (those p (x ∷ xs))
-    go true q ih = rw (q, those, ih)
-    go false q ih = rw (q, those, h x q) ih
-
--- The types met
-
-module _ (ws : List ℕ) (r : ℕ) where
-  types-other : (ts : List ℕ) (k : ℕ) → isType ws r ≡ false → Types ts k ws r → Types ts k ws (r + 1)
-  unfolding those
-  types-other ts k e p =
-      let f = p .few in
-      record { size = p .size; few = omega arith; met = p .met ∙ rw (below-more r, those-append (isType ws) (below r) (r ∷ []), e, those) (sym (nothing (those (isType ws) (below r)))) }
-    where
-      nothing : (xs : List ℕ) → xs ++ [] ≡ xs
-      nothing [] = refl
-      nothing (x ∷ xs) = ap (λ (ys : List ℕ). x ∷ ys) (nothing xs)
-
-  types-next : (ts : List ℕ) (k : ℕ) → isType ws r ≡ true → r < 4096 → Types ts k ws r → Types (set ts k r) (k + 1) ws (r + 1)
-  unfolding those
-  types-next ts k e l p =
-      let f = p .few in
-      let s = p .size in
-      record {
-        size = simp length-set s;
-        few = omega arith;
-        met = rw (below-more r, those-append (isType ws) (below r) (r ∷ []), e, those, add-one, take-suc-set ts k r (omega arith), p .met);
-      }
-
--- A type that is new
-
--- record j differs from record r
-unfoldable pub differs : List ℕ → ℕ → ℕ → Bool
-differs ws r j = not (both (has ws j (tag ws r)) (both (eqb (fieldA ws j) (fieldA ws r)) (eqb (fieldB ws j) (fieldB ws r))))
+use Rattle.records.specs.Chains.{equals, latest, Chains, TypeAsks, TypeSays}
+use Rattle.records.proofs.Joined.{all-below}
 
 -- Two records' words, one after the other
 
@@ -104,92 +35,182 @@ module _ (ws : List ℕ) (j : ℕ) (x : Record) where
     unfolding equals both
     equals-b e b eb = rw (eq-eqb _ _ k, eq-eqb _ _ e, eb)
 
+-- record j differs from record r
+unfoldable pub differs : List ℕ → ℕ → ℕ → Bool
+differs ws r j = not (both (has ws j (tag ws r)) (both (eqb (fieldA ws j) (fieldA ws r)) (eqb (fieldB ws j) (fieldB ws r))))
+
 differs-is : (ws : List ℕ) (r j : ℕ) (x : Record) → IsRecord ws r x → differs ws r j ≡ not (equals ws j x)
 unfolding differs equals has
 differs-is ws r j x i = rw (i .tag-is, i .a-is, i .b-is)
 
-other-differs : (ws : List ℕ) (r j : ℕ) → isType ws r ≡ true → isType ws j ≡ false → differs ws r j ≡ true
-unfolding differs has both
-other-differs ws r j e n = rw (ne-eqb (tag ws j) (tag ws r) (λ q. false-true (sym n ∙ kind q ∙ e)))
+module _ (ws : List ℕ) (r j : ℕ) where
+  kind-differs : isType ws r ≡ true → isType ws j ≡ false → differs ws r j ≡ true
+  unfolding differs has both
+  kind-differs e n = rw (ne-eqb (tag ws j) (tag ws r) (λ q. false-true (sym n ∙ kind q ∙ e)))
+    where
+      kind : tag ws j ≡ tag ws r → isType ws j ≡ isType ws r
+      kind q = unfold isType in rw q
+
+  key-differs : eqb (fieldB ws j) (fieldB ws r) ≡ false → differs ws r j ≡ true
+  unfolding differs
+  key-differs n = rw n (no-third (has ws j (tag ws r)) (eqb (fieldA ws j) (fieldA ws r)))
+    where
+      no-third : (h a : Bool) → not (both h (both a false)) ≡ true
+      no-third true true = unfold both in refl
+      no-third true false = unfold both in refl
+      no-third false a = unfold both in refl
+
+  other-differs : isType ws r ≡ true → both (isType ws j) (eqb (fieldB ws j) (fieldB ws r)) ≡ false → differs ws r j ≡ true
+  other-differs e n = go (isType ws j) refl
+    where
+      go : (t : Bool) → isType ws j ≡ t → differs ws r j ≡ true
+      go true q = key-differs (unfold both in (rw (q, both) at n))
+      go false q = kind-differs e q
+
+-- The latest type with a b
+
+module _ (ws : List ℕ) (b : ℕ) where
+  latest-yes : (i : ℕ) → both (isType ws i) (eqb (fieldB ws i) b) ≡ true → latest ws b (suc i) ≡ suc i
+  unfolding latest
+  latest-yes i q = rw (q, latest)
+
+  latest-no : (i : ℕ) → both (isType ws i) (eqb (fieldB ws i) b) ≡ false → latest ws b (suc i) ≡ latest ws b i
+  unfolding latest
+  latest-no i q = rw (q, latest)
+
+  latest-low : (i : ℕ) → latest ws b i ≤ i
+  latest-low zero = unfold latest in omega arith
+  latest-low (suc i) = go (both (isType ws i) (eqb (fieldB ws i) b)) refl (latest-low i)
+    where
+      go : (t : Bool) → both (isType ws i) (eqb (fieldB ws i) b) ≡ t → latest ws b i ≤ i → latest ws b (suc i) ≤ suc i
+      go true q h = rw (latest-yes i q) (omega arith)
+      go false q h = rw (latest-no i q) (omega arith)
+
+  latest-own : (i : ℕ) → latest ws b (latest ws b i) ≡ latest ws b i
+  latest-own zero = unfold latest in refl
+  latest-own (suc i) = go (both (isType ws i) (eqb (fieldB ws i) b)) refl (latest-own i)
+    where
+      go : (t : Bool) → both (isType ws i) (eqb (fieldB ws i) b) ≡ t → latest ws b (latest ws b i) ≡ latest ws b i → latest ws b (latest ws b (suc i)) ≡ latest ws b (suc i)
+      go true q h = ap (latest ws b) (latest-yes i q)
+      go false q h = rw (latest-no i q) h
+
+  latest-member : (i : ℕ) → latest ws b (suc i) ≡ suc i → both (isType ws i) (eqb (fieldB ws i) b) ≡ true
+  latest-member i e = go (both (isType ws i) (eqb (fieldB ws i) b)) refl
+    where
+      go : (t : Bool) → both (isType ws i) (eqb (fieldB ws i) b) ≡ t → both (isType ws i) (eqb (fieldB ws i) b) ≡ true
+      go true q = q
+      go false q = let h = latest-low i in let z = sym (latest-no i q) ∙ e in absurd (omega arith)
+
+-- no type above the latest equals record r
+latest-all : (ws : List ℕ) (r : ℕ) → isType ws r ≡ true → (i : ℕ) → all (differs ws r) (below i) ≡ all (differs ws r) (below (latest ws (fieldB ws r) i))
+latest-all ws r e zero = unfold latest in refl
+latest-all ws r e (suc i) = go (both (isType ws i) (eqb (fieldB ws i) (fieldB ws r))) refl (latest-all ws r e i)
   where
-    kind : tag ws j ≡ tag ws r → isType ws j ≡ isType ws r
-    kind q = unfold isType in rw q
+    go : (t : Bool) → both (isType ws i) (eqb (fieldB ws i) (fieldB ws r)) ≡ t → all (differs ws r) (below i) ≡ all (differs ws r) (below (latest ws (fieldB ws r) i))
+        → all (differs ws r) (below (suc i)) ≡ all (differs ws r) (below (latest ws (fieldB ws r) (suc i)))
+    go true q h = rw (latest-yes ws (fieldB ws r) i q)
+    go false q h = rw (latest-no ws (fieldB ws r) i q, all-below (differs ws r) i, other-differs ws r i e q) (unfold both in h)
+
+-- The chains
+
+pub chains-other : (ws la be : List ℕ) (r : ℕ) → isType ws r ≡ false → Chains la be ws r → Chains la be ws (r + 1)
+chains-other ws la be r e p = record {
+  last = λ b h. p .last b h ∙ rw add-one (sym (latest-no ws b r (unfold both in rw e)));
+  before = λ j h t. p .before j (lower j t h) t;
+}
+  where
+    lower : (j : ℕ) → isType ws j ≡ true → j < r + 1 → j < r
+    lower j t h = go (ℕ-discrete j r)
+      where
+        go : Dec (j ≡ r) → j < r
+        go (yes q) = absurd (false-true (sym e ∙ ap (isType ws) (sym q) ∙ t))
+        go (no q) = omega arith
+
+chains-next : (ws la be : List ℕ) (r : ℕ) (k t : ℕ) → isType ws r ≡ true → k ≡ fieldB ws r → k < length la → r < length be → t ≡ getD la k 0
+    → Chains la be ws r → Chains (set la k (r + 1)) (set be r t) ws (r + 1)
+chains-next ws la be r k t e ek hk hr et p = record {
+  last = λ b h. newest b (ℕ-discrete b k) (simp length-set at h);
+  before = λ j h y. older j (ℕ-discrete j r) h y;
+}
+  where
+    newest : (b : ℕ) → Dec (b ≡ k) → b < length la → getD (set la k (r + 1)) b 0 ≡ latest ws b (r + 1)
+    newest b (yes q) h =
+        let own : both (isType ws r) (eqb (fieldB ws r) b) ≡ true = unfold both in rw (e, eq-eqb (fieldB ws r) b (sym (q ∙ ek))) in
+        ap (λ i. getD (set la k (r + 1)) i 0) q ∙ getD-set-same la k (r + 1) 0 hk ∙ rw add-one (sym (latest-yes ws b r own))
+    newest b (no q) h =
+        let other : both (isType ws r) (eqb (fieldB ws r) b) ≡ false = unfold both in rw (e, ne-eqb (fieldB ws r) b (λ z. q (sym z ∙ sym ek))) in
+        getD-set-other la k b (r + 1) 0 q ∙ p .last b h ∙ rw add-one (sym (latest-no ws b r other))
+
+    older : (j : ℕ) → Dec (j ≡ r) → j < r + 1 → isType ws j ≡ true → getD (set be r t) j 0 ≡ latest ws (fieldB ws j) j
+    older j (yes q) h y = rw q (getD-set-same be r t 0 hr ∙ et ∙ p .last k hk ∙ rw ek)
+    older j (no q) h y = getD-set-other be r j t 0 q ∙ p .before j (omega arith) y
+
+-- A search down a chain
+
+-- what is left of the search for an equal of record r at j: the types below it, the one before j first
+pub record Searched (ws : List ℕ) (r j : ℕ) : Type 0 where
+  pub low : j ≤ r
+  pub own : latest ws (fieldB ws r) j ≡ j
+  pub left : new-type ws r ≡ all (differs ws r) (below j)
 
 module _ (ws : List ℕ) (r : ℕ) where
-  new-other : isType ws r ≡ false → new-type ws r ≡ true
+  pub new-other : isType ws r ≡ false → new-type ws r ≡ true
   unfolding new-type either
   new-other e = rw e
 
-  new-type-is : isType ws r ≡ true → new-type ws r ≡ all (differs ws r) (those (isType ws) (below r))
+  new-is : isType ws r ≡ true → new-type ws r ≡ all (differs ws r) (below r)
   unfolding new-type either differs
-  new-type-is e = rw e (all-those (differs ws r) (isType ws) (λ j n. other-differs ws r j e n) (below r))
+  new-is e = rw e
 
-module _ (ws ts : List ℕ) (k r : ℕ) (p : TypeAsks ws ts k r) where
-  met-count : length (take k ts) ≡ k
-  met-count = let s = p .known .size in let f = p .known .few in let l = p .low in simp length-take (omega arith)
+module _ (ws la be : List ℕ) (r : ℕ) (x : Record) (p : TypeAsks ws la be r x) where
+  pub key-low : x .b < length la
+  key-low = let k = p .key in let h = p .room-last in let e = p .words .b-is in omega arith
 
-  pub search-start : new-type ws r ≡ all (differs ws r) (drop 0 (take k ts))
-  search-start = new-type-is ws r (p .type) ∙ rw (p .known .met)
+  top-is : getD la (x .b) 0 ≡ latest ws (fieldB ws r) r
+  top-is = p .known .last (x .b) key-low ∙ ap (λ b. latest ws b r) (p .words .b-is)
 
-  module _ (i : ℕ) (h : i < k) (x : Record) (ix : IsRecord ws r x) (b : Bool) (eb : b ≡ equals ws (getD ts i 0) x) where
-    search-step : all (differs ws r) (drop i (take k ts)) ≡ both (not b) (all (differs ws r) (drop (i + 1) (take k ts)))
-    unfolding all
-    search-step =
-        let c = met-count in
-        let l : i < length (take k ts) = omega arith in
-        rw (drop-cons (take k ts) i 0 l, getD-take k ts i 0 h, differs-is ws r (getD ts i 0) x ix, ← eb, add-one)
+  pub search-start : Searched ws r (getD la (x .b) 0)
+  search-start = rw top-is (record {
+    low = latest-low ws (fieldB ws r) r;
+    own = latest-own ws (fieldB ws r) r;
+    left = new-is ws r (p .type) ∙ latest-all ws r (p .type) r;
+  })
 
-    pub search-stop : b ≡ true → all (differs ws r) (drop i (take k ts)) ≡ false
-    unfolding both
-    search-stop t = search-step ∙ rw t
+  module _ (j : ℕ) (s : Searched ws r j) (n : j ≡ 0 → ⊥) where
+    one-less : j ≡ suc (j - 1)
+    one-less = omega arith
 
-    pub search-on : b ≡ false → all (differs ws r) (drop i (take k ts)) ≡ all (differs ws r) (drop (i + 1) (take k ts))
-    unfolding both
-    search-on t = search-step ∙ rw t
+    pub at-low : j - 1 < r
+    at-low = let l = s .low in omega arith
 
-  pub search-end : (i : ℕ) → i ≤ k → k ≤ i → all (differs ws r) (drop i (take k ts)) ≡ true
-  unfolding all
-  search-end i g h =
-      let c = met-count in
-      let e : i ≡ length (take k ts) = omega arith in
-      ap (λ m. all (differs ws r) (drop m (take k ts))) e ∙ rw (drop-length (take k ts))
+    member : both (isType ws (j - 1)) (eqb (fieldB ws (j - 1)) (fieldB ws r)) ≡ true
+    member = latest-member ws (fieldB ws r) (j - 1) (rw one-less at (s .own))
 
-  pub earlier-low : (i : ℕ) → i < k → getD ts i 0 < r
-  earlier-low i h =
-      let c = met-count in
-      let l : i < length (take k ts) = omega arith in
-      rw (← getD-take k ts i 0 h) (every-at (λ j. j < r) (take k ts) i l (rw (p .known .met) all-low))
-    where
-      all-low : Every (λ j. j < r) (those (isType ws) (below r))
-      all-low = unfold below in those-low (isType ws) r 0 r (omega arith)
+    module _ (b : Bool) (eb : b ≡ equals ws (j - 1) x) where
+      step : new-type ws r ≡ both (not b) (all (differs ws r) (below (j - 1)))
+      step = s .left ∙ ap (λ i. all (differs ws r) (below i)) one-less ∙ all-below (differs ws r) (j - 1) ∙ rw (differs-is ws r (j - 1) x (p .words), ← eb)
 
--- The answer for a record
+      pub search-stop : b ≡ true → TypeSays ws la be r false
+      search-stop t = record { answer = sym (step ∙ unfold both in rw t); next = λ q. absurd (false-true q) }
 
-pub type-is : (ws : List ℕ) (r k : ℕ) (b : Bool) → k ≡ tag ws r → b ≡ typeTag k → isType ws r ≡ b
-unfolding isType typeTag
-type-is ws r k b e h = rw (← e) (sym h)
+      pub search-on : b ≡ false → Searched ws r (getD be (j - 1) 0)
+      search-on t = rw before-is (record {
+        low = let l = latest-low ws (fieldB ws r) (j - 1) in let h = at-low in omega arith;
+        own = latest-own ws (fieldB ws r) (j - 1);
+        left = passed ∙ latest-all ws r (p .type) (j - 1);
+      })
+        where
+          passed : new-type ws r ≡ all (differs ws r) (below (j - 1))
+          passed = step ∙ (unfold both in rw t)
 
-module _ (ws ts : List ℕ) (k r : ℕ) (p : RecordAsks ws ts k r) where
-  pub says-other : isType ws r ≡ false → TypeSays ws ts r (At k)
-  says-other e = record {
-    old = λ q. let z : _≡_ {A = ℕ} 0 1 = cc in absurd (omega arith);
-    fresh = λ m q. new-other ws r e;
-    next = λ m q. let z : k ≡ m = cc in rw (← z) (types-other ws r ts k e (p .known));
-  }
+          before-is : getD be (j - 1) 0 ≡ latest ws (fieldB ws r) (j - 1)
+          before-is = let m = both-true _ _ member in p .known .before (j - 1) at-low (m .0) ∙ ap (λ k. latest ws k (j - 1)) (eqb-true _ _ (m .1))
 
-  pub type-asks : isType ws r ≡ true → TypeAsks ws ts k r
-  type-asks e = record { inside = p .above .inside; low = p .above .few; type = e; known = p .known }
+      pub search-falls : getD be (j - 1) 0 < j
+      search-falls = let m = both-true _ _ member in let e = p .known .before (j - 1) at-low (m .0) in let l = latest-low ws (fieldB ws (j - 1)) (j - 1) in omega arith
 
-  pub says-old : new-type ws r ≡ false → TypeSays ws ts r Nowhere
-  says-old e = record {
-    old = λ _. e;
-    fresh = λ m q. let z : _≡_ {A = ℕ} 0 1 = cc in absurd (omega arith);
-    next = λ m q. let z : _≡_ {A = ℕ} 0 1 = cc in absurd (omega arith);
-  }
-
-  pub says-new : isType ws r ≡ true → new-type ws r ≡ true → TypeSays ws (set ts k r) r (At (k + 1))
-  says-new e n = record {
-    old = λ q. let z : _≡_ {A = ℕ} 0 1 = cc in absurd (omega arith);
-    fresh = λ m q. n;
-    next = λ m q. let z : k + 1 ≡ m = cc in rw (← z) (types-next ws r ts k e (p .above .few) (p .known));
+  pub search-end : (j : ℕ) → Searched ws r j → j ≡ 0 → TypeSays ws (set la (x .b) (r + 1)) (set be r (getD la (x .b) 0)) r true
+  search-end j s z = record {
+    answer = sym (s .left ∙ ap (λ i. all (differs ws r) (below i)) z ∙ (unfold below in unfold from in unfold all in refl));
+    next = λ _. chains-next ws la be r (x .b) (getD la (x .b) 0) (p .type) (p .words .b-is) key-low (p .room-before) refl (p .known);
   }

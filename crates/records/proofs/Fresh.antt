@@ -1,16 +1,15 @@
 -- References are the first, one after the other: none is used by a lower record, and none comes twice.
-use Prim.Native.Nat.{ℕ, zero, suc, _+_}
+use Prim.Native.Nat.{ℕ, zero, suc}
 use mathlib.Core.Path.{_≡_, refl, sym, ap, _∙_}
 use mathlib.Core.Bool.{Bool, true, false, not}
-use mathlib.Core.List.{List, [], _∷_, _++_}
-use native.Mathlib.Numerals.{add-one}
+use mathlib.Core.List.{List, [], _∷_}
 use native.Mathlib.Decide.{ℕ-discrete}
 use borrow.Author.Tests.{eq-eqb, ne-eqb}
 use lib.Dec.{eqb}
 use Rattle.rules.specs.Lists.{both, either, all, any, among, distinct, from, below}
 use Rattle.rules.specs.Records.{uses, first-use}
-use Rattle.records.specs.Marks.{used, fresh, one}
-use Rattle.records.proofs.Earlier.{below-more}
+use Rattle.records.specs.Marks.{used, fresh}
+use Rattle.records.proofs.Joined.{all-below, among-append, both-swap}
 
 -- Lists and tests
 
@@ -19,35 +18,10 @@ unfolding all
 all-same f g h [] = refl
 all-same f g h (x ∷ xs) = rw (h x, all-same f g h xs)
 
-both-last : (a b c : Bool) → both (both a b) c ≡ both a (both b c)
-unfolding both
-both-last true b c = refl
-both-last false b c = refl
-
-all-append : (ok : ℕ → Bool) (xs ys : List ℕ) → all ok (xs ++ ys) ≡ both (all ok xs) (all ok ys)
-unfolding all
-all-append ok [] ys = unfold both in refl
-all-append ok (x ∷ xs) ys = rw (all-append ok xs ys) (sym (both-last (ok x) (all ok xs) (all ok ys)))
-
-pub among-append : (xs ys : List ℕ) (v : ℕ) → among (xs ++ ys) v ≡ either (among xs v) (among ys v)
-unfolding among any
-among-append [] ys v = unfold either in refl
-among-append (x ∷ xs) ys v = rw (among-append xs ys v) (sym (last (eqb x v) (any (λ y. eqb y v) xs) (any (λ y. eqb y v) ys)))
-  where
-    last : (a b c : Bool) → either (either a b) c ≡ either a (either b c)
-    last true b c = unfold either in refl
-    last false b c = unfold either in refl
-
 all-both : (f g : ℕ → Bool) (xs : List ℕ) → all (λ y. both (f y) (g y)) xs ≡ both (all f xs) (all g xs)
 unfolding all
 all-both f g [] = unfold both in refl
-all-both f g (x ∷ xs) = rw (all-both f g xs) (swap (f x) (g x) (all f xs) (all g xs))
-  where
-    swap : (a b c d : Bool) → both (both a b) (both c d) ≡ both (both a c) (both b d)
-    swap true true c d = unfold both in refl
-    swap true false true d = unfold both in refl
-    swap true false false d = unfold both in refl
-    swap false b c d = unfold both in refl
+all-both f g (x ∷ xs) = rw (all-both f g xs) (both-swap (f x) (g x) (all f xs) (all g xs))
 
 eqb-sym : (x y : ℕ) → eqb x y ≡ eqb y x
 eqb-sym x y = go (ℕ-discrete x y)
@@ -91,17 +65,11 @@ fresh-is (x ∷ xs) u =
     shuffle false false false r = unfold both in refl
 
 unused : (ws : List ℕ) (r x : ℕ) → all (λ j. not (among (uses ws j) x)) (below r) ≡ not (among (used ws r) x)
-unfolding used any all from
-unused ws zero x = unfold below in unfold among in refl
+unfolding used
+unused ws zero x = unfold below in unfold from in unfold all in unfold among in unfold any in refl
 unused ws (suc r) x =
-    rw (← add-one r, below-more r, all-append (λ j. not (among (uses ws j) x)) (below r) (r ∷ []), unused ws r x, among-append (uses ws r) (used ws r) x, not-either (among (uses ws r) x) (among (used ws r) x))
-    (turn (not (among (used ws r) x)) (not (among (uses ws r) x)))
-  where
-    turn : (a b : Bool) → both a (both b true) ≡ both b a
-    turn true true = unfold both in refl
-    turn true false = unfold both in refl
-    turn false true = unfold both in refl
-    turn false false = unfold both in refl
+    all-below (λ j. not (among (uses ws j) x)) r ∙
+    rw (unused ws r x, among-append (uses ws r) (used ws r) x, not-either (among (uses ws r) x) (among (used ws r) x))
 
 pub first-use-is : (ws : List ℕ) (r : ℕ) → first-use ws r ≡ fresh (used ws r) (uses ws r)
 unfolding first-use

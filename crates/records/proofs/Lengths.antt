@@ -7,7 +7,7 @@ use mathlib.Core.Logic.{_⊎_, inl, inr}
 use native.Mathlib.Omega.{arith}
 use native.Mathlib.Decide.{ℕ-discrete}
 use borrow.Author.Tests.{ltb-true, leb-true, eqb-true, eq-eqb, ne-eqb, lt-leb, le-leb}
-use lib.ListN.{length, getD, set, length-set}
+use lib.ListN.{length, getD, set}
 use lib.Seq.{getD-set-same, getD-set-other}
 use lib.Dec.{eqb, ltb, leb}
 use Rattle.rules.specs.Lists.{both, either}
@@ -79,7 +79,7 @@ module _ (ws : List ℕ) (r : ℕ) where
   listed-other z = rw (ne-eqb _ _ z)
 
   pub lengths-other : (ls : List ℕ) → (tag ws r ≡ CE → ⊥) → Lengths ls ws r → Lengths ls ws (r + 1)
-  lengths-other ls z p = record { size = p .size; marked = λ c h e. p .marked c (below c h e) e }
+  lengths-other ls z p = record { marked = λ c h e. p .marked c (below c h e) e }
     where
       below : (c : ℕ) → c < r + 1 → tag ws c ≡ CE → c < r
       below c h e = go (ℕ-discrete c r)
@@ -88,13 +88,11 @@ module _ (ws : List ℕ) (r : ℕ) where
           go (yes q) = absurd (z (ap (tag ws) (sym q) ∙ e))
           go (no q) = omega arith
 
-  pub lengths-next : (ls : List ℕ) (v : ℕ) → r < 4096 → v ≡ length (cells 17 ws r) → Lengths ls ws r → Lengths (set ls r v) ws (r + 1)
-  lengths-next ls v l e p =
-      let s = p .size in
-      record { size = simp length-set s; marked = λ c h k. go c (ℕ-discrete c r) h k }
+  pub lengths-next : (ls : List ℕ) (v : ℕ) → r < length ls → v ≡ length (cells 17 ws r) → Lengths ls ws r → Lengths (set ls r v) ws (r + 1)
+  lengths-next ls v l e p = record { marked = λ c h k. go c (ℕ-discrete c r) h k }
     where
       go : (c : ℕ) → Dec (c ≡ r) → c < r + 1 → tag ws c ≡ CE → getD (set ls r v) c 0 ≡ length (cells 17 ws c)
-      go c (yes q) h k = let s = p .size in rw q (getD-set-same ls r v 0 (omega arith) ∙ e)
+      go c (yes q) h k = rw q (getD-set-same ls r v 0 l ∙ e)
       go c (no q) h k = getD-set-other ls r c v 0 q ∙ p .marked c (omega arith) k
 
   module _ (p : Above ws r) (sh : shaped ws r ≡ true) (e : tag ws r ≡ CE) where
@@ -120,11 +118,11 @@ module _ (ws : List ℕ) (r : ℕ) where
     length-one : fieldB ws r ≡ NONE → 1 ≡ length (cells 17 ws r)
     length-one z = rw (cells-more 16 ws r real, cells-none 16 ws (fieldB ws r) z)
 
-    pub list-one : (ls : List ℕ) → fieldB ws r ≡ NONE → Lengths ls ws r → ListSays ws (set ls r 1) r true
+    pub list-one : (ls : List ℕ) → r < length ls → fieldB ws r ≡ NONE → Lengths ls ws r → ListSays ws (set ls r 1) r true
     unfolding listed alike has either both
-    list-one ls z q = record {
+    list-one ls l z q = record {
       answer = rw (e, eq-eqb _ _ z, ← length-one z);
-      next = λ _. lengths-next ls 1 (p .few) (length-one z) q;
+      next = λ _. lengths-next ls 1 l (length-one z) q;
     }
 
     module _ (z : fieldB ws r ≡ NONE → ⊥) where
@@ -149,7 +147,7 @@ module _ (ws : List ℕ) (r : ℕ) where
         unfolding both
         list-mixed ls t = record { answer = sym (alike-is ∙ rw t); next = λ q. absurd (false-true q) }
 
-        module _ (ls : List ℕ) (q : Lengths ls ws r) (t : x ≡ true) (c : ℕ) (ec : c ≡ getD ls (fieldB ws r) 0) where
+        module _ (ls : List ℕ) (room : r < length ls) (q : Lengths ls ws r) (t : x ≡ true) (c : ℕ) (ec : c ≡ getD ls (fieldB ws r) 0) where
           count-is : c ≡ length (cells 17 ws (fieldB ws r))
           count-is = let l = rest-low z in ec ∙ q .marked (fieldB ws r) (l .0) (l .1)
 
@@ -162,4 +160,4 @@ module _ (ws : List ℕ) (r : ℕ) where
           list-more h =
               let n = count-is in
               let m = length-more in
-              record { answer = sym (alike-is ∙ rw (t, ← count-is, le-leb (suc c) 16 (omega arith))); next = λ _. lengths-next ls (c + 1) (p .few) (omega arith) q }
+              record { answer = sym (alike-is ∙ rw (t, ← count-is, le-leb (suc c) 16 (omega arith))); next = λ _. lengths-next ls (c + 1) room (omega arith) q }

@@ -1,5 +1,7 @@
+pub mod Joined  -- tests over joined lists
 pub mod Lengths  -- lists are short and not mixed
 pub mod Earlier  -- types are new
 pub mod Fresh  -- references one after the other
 pub mod Uses  -- references are the first
+pub mod Fields  -- the fields of a record
 pub mod Passing  -- a record keeps the rules, and the next is looked at

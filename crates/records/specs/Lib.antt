@@ -1,1 +1,3 @@
-pub mod Marks  -- what the marks mean
+pub mod Marks  -- what the marks of lists and references mean
+pub mod Chains  -- types in chains by their b
+pub mod Rows  -- what is known of a record before and after it is looked at

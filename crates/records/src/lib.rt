@@ -1,7 +1,6 @@
 // Records (5): the lowest record that breaks a rule of the records section, in one pass with marks.
 use fields::Field;
-use fields::shape_of;
-use fields::shaped;
+use fields::fits;
 use fields::term_tag;
 use fields::type_tag;
 use rules::Found;
@@ -13,8 +12,10 @@ use table::read;
 ghost use mathlib.Core.Path.{_≡_};
 ghost use Prim.Native.Nat.{_+_, _*_, _<_, _≤_};
 ghost use lib.ListN.{length};
-ghost use Rattle.rules.specs.Records.{new-type, broken};
-ghost use Rattle.records.specs.Marks.{alikeTags, refersTo, counts, equals, ListAsks, ListSays, TypeAsks, RecordAsks, TypeSays, MarkAsks, MarkSays, UseAsks, UseSays};
+ghost use Rattle.rules.specs.Records.{broken};
+ghost use Rattle.records.specs.Marks.{alikeTags, refersTo, counts, ListAsks, ListSays, MarkAsks, MarkSays};
+ghost use Rattle.records.specs.Chains.{equals, TypeAsks, TypeSays};
+ghost use Rattle.records.specs.Rows.{FieldAsks, FieldSays, RowAsks, RowSays, TypeRowAsks, TypeRowSays, CellAsks, CellSays, RecordAsks, RecordSays, SearchAsks};
 
 // Both are tags of types, or both of terms.
 fn alike_tags(k: u32, j: u32) -> bool
@@ -30,14 +31,10 @@ fn alike_tags(k: u32, j: u32) -> bool
 }
 
 // A cell begins a list that is not mixed and has at most 16 cells; its length is marked.
-fn listed(table: &[u32], lengths: &mut [u8], r: u32) -> bool
-    requires { ⌜ ListAsks (now table) (now lengths) r ⌝ }
+fn listed(table: &[u32], lengths: &mut [u8], r: u32, x: Record) -> bool
+    requires { ⌜ ListAsks (now table) (now lengths) r x ⌝ }
     ensures { λ b. ⌜ ListSays (now (table .entry)) (now (lengths .exit)) r b ⌝ }
 {
-    let x = read(table, r);
-    if x.tag != CE {
-        return true;
-    }
     let at = r as usize;
     if x.b == NONE {
         lengths[at] = 1;
@@ -73,39 +70,25 @@ fn equal(table: &[u32], j: u32, x: Record) -> bool
     y.b == x.b
 }
 
-// No earlier type record equals this one, which is a type.
-fn new_type(table: &[u32], types: &[u32], count: u32, r: u32) -> bool
-    requires { ⌜ TypeAsks (now table) (now types) count r ⌝ }
-    ensures { λ b. ⌜ b ≡ new-type (now (table .entry)) r ⌝ }
+// No earlier type record equals this one, which joins its chain. Equal types have equal b, so the types with this b are compared, from the latest
+// down: last[b] is one more than its number, before[j] one more than that of the one before j, 0 is the chain's end.
+fn new_type(table: &[u32], last: &mut [u16], before: &mut [u16], r: u32, x: Record) -> bool
+    requires { ⌜ TypeAsks (now table) (now last) (now before) r x ⌝ }
+    ensures { λ b. ⌜ TypeSays (now (table .entry)) (now (last .exit)) (now (before .exit)) r b ⌝ }
 {
-    let x = read(table, r);
-    let mut i = 0;
-    while i < count {
-        let at = i as usize;
-        let j = types[at];
-        if equal(table, j, x) {
+    let key = x.b as usize;
+    let top = last[key];
+    let mut j = top;
+    while j != 0 {
+        let at = j - 1;
+        if equal(table, at as u32, x) {
             return false;
         }
-        i += 1;
+        j = before[at as usize];
     }
+    before[r as usize] = top;
+    last[key] = (r + 1) as u16;
     true
-}
-
-// How many types there are up to record r, which joins the list of types if it is one; nowhere if it equals an earlier type.
-fn add_type(table: &[u32], types: &mut [u32], count: u32, r: u32) -> Found
-    requires { ⌜ RecordAsks (now table) (now types) count r ⌝ }
-    ensures { λ x. ⌜ TypeSays (now (table .entry)) (now (types .exit)) r x ⌝ }
-{
-    let x = read(table, r);
-    if !type_tag(x.tag) {
-        return Found::At(count);
-    }
-    if !new_type(table, types, count, r) {
-        return Found::Nowhere;
-    }
-    let at = count as usize;
-    types[at] = r;
-    Found::At(count + 1)
 }
 
 // A field that holds x refers to a record; NONE is no record.
@@ -113,7 +96,6 @@ fn refers(f: Field, x: u32) -> bool
     ensures { λ b. ⌜ b ≡ refersTo f x ⌝ }
 {
     match f {
-        Field::Never => false,
         Field::Nil => false,
         Field::Any => false,
         Field::Small => false,
@@ -157,23 +139,100 @@ fn mark(table: &[u32], marks: &mut [u8], f: Field, x: u32) -> bool
     true
 }
 
-// None of the record's references is the second to a record of tag 5 to 9; all of them are marked.
-fn first_use(table: &[u32], marks: &mut [u8], r: u32) -> bool
-    requires { ⌜ UseAsks (now table) (now marks) r ⌝ }
-    ensures { λ b. ⌜ UseSays (now (table .entry)) (now (marks .exit)) r b ⌝ }
+// A field of record r holds what it can, and its reference is no second one.
+fn field_keeps(table: &[u32], marks: &mut [u8], r: u32, f: Field, x: u32) -> bool
+    requires { ⌜ FieldAsks (now table) (now marks) r ⌝ }
+    ensures { λ b. ⌜ FieldSays (now (table .entry)) (now (marks .entry)) (now (marks .exit)) r f x b ⌝ }
+{
+    if !fits(table, r, f, x) {
+        return false;
+    }
+    mark(table, marks, f, x)
+}
+
+// The fields a, b and c of a record, in order.
+fn row_keeps(table: &[u32], marks: &mut [u8], r: u32, x: Record, a: Field, b: Field, c: Field) -> bool
+    requires { ⌜ RowAsks (now table) (now marks) r x a b c ⌝ }
+    ensures { λ k. ⌜ RowSays (now (table .entry)) (now (marks .exit)) r k ⌝ }
+{
+    if !field_keeps(table, marks, r, a, x.a) {
+        return false;
+    }
+    if !field_keeps(table, marks, r, b, x.b) {
+        return false;
+    }
+    field_keeps(table, marks, r, c, x.c)
+}
+
+// A type keeps the rules.
+fn type_keeps(table: &[u32], marks: &mut [u8], last: &mut [u16], before: &mut [u16], r: u32, x: Record, a: Field, b: Field) -> bool
+    requires { ⌜ TypeRowAsks (now table) (now marks) (now last) (now before) r x a b ⌝ }
+    ensures { λ k. ⌜ TypeRowSays (now (table .entry)) (now (marks .exit)) (now (last .exit)) (now (before .exit)) r k ⌝ }
+{
+    if !row_keeps(table, marks, r, x, a, b, Field::Nil) {
+        return false;
+    }
+    new_type(table, last, before, r, x)
+}
+
+// A list cell keeps the rules.
+fn cell_keeps(table: &[u32], marks: &mut [u8], lengths: &mut [u8], r: u32, x: Record) -> bool
+    requires { ⌜ CellAsks (now table) (now marks) (now lengths) r x ⌝ }
+    ensures { λ k. ⌜ CellSays (now (table .entry)) (now (marks .exit)) (now (lengths .exit)) r k ⌝ }
+{
+    if !row_keeps(table, marks, r, x, Field::Element, Field::Rest, Field::Nil) {
+        return false;
+    }
+    listed(table, lengths, r, x)
+}
+
+// Record r keeps the rules: the rows of the records section's table, by tag. An unknown tag breaks them.
+fn record_keeps(table: &[u32], marks: &mut [u8], lengths: &mut [u8], last: &mut [u16], before: &mut [u16], r: u32) -> bool
+    requires { ⌜ RecordAsks (now table) (now marks) (now lengths) (now last) (now before) r ⌝ }
+    ensures { λ b. ⌜ RecordSays (now (table .entry)) (now (marks .exit)) (now (lengths .exit)) (now (last .exit)) (now (before .exit)) r b ⌝ }
 {
     let x = read(table, r);
-    let s = shape_of(x.tag);
-    let a = s.a;
-    if !mark(table, marks, a, x.a) {
-        return false;
+    let k = x.tag;
+    match k {
+        1 => type_keeps(table, marks, last, before, r, x, Field::Any, Field::Nil),
+        2 => type_keeps(table, marks, last, before, r, x, Field::OfType, Field::OfType),
+        3 => row_keeps(table, marks, r, x, Field::OfType, Field::Nil, Field::Nil),
+        4 => row_keeps(table, marks, r, x, Field::Types, Field::OfBase, Field::Nil),
+        5 => cell_keeps(table, marks, lengths, r, x),
+        6 => row_keeps(table, marks, r, x, Field::OfTerm, Field::Nil, Field::Nil),
+        7 => row_keeps(table, marks, r, x, Field::OfConstant, Field::Terms, Field::Nil),
+        8 => row_keeps(table, marks, r, x, Field::Small, Field::Terms, Field::Nil),
+        9 => row_keeps(table, marks, r, x, Field::OfHole, Field::Terms, Field::Nil),
+        10 => row_keeps(table, marks, r, x, Field::OfTerm, Field::OfTerm, Field::OfType),
+        _ => false,
     }
-    let b = s.b;
-    if !mark(table, marks, b, x.b) {
-        return false;
+}
+
+// The lowest of the first n records that breaks a rule, with marks for each of them.
+fn search(table: &[u32], marks: &mut [u8], lengths: &mut [u8], last: &mut [u16], before: &mut [u16], n: u32) -> Found
+    requires { ⌜ SearchAsks (now table) (now marks) (now lengths) (now last) (now before) n ⌝ }
+    ensures { λ r. ⌜ r ≡ broken (now (table .entry)) n ⌝ }
+{
+    let mut r = 0;
+    while r < n {
+        if !record_keeps(table, marks, lengths, last, before, r) {
+            return Found::At(r);
+        }
+        r += 1;
     }
-    let c = s.c;
-    mark(table, marks, c, x.c)
+    Found::Nowhere
+}
+
+// The search for at most 256 records: small problems clear small arrays.
+fn broken_small(table: &[u32], n: u32) -> Found
+    requires { ⌜ (n ≤ 256) × (4 * n ≤ length (now table)) ⌝ }
+    ensures { λ r. ⌜ r ≡ broken (now (table .entry)) n ⌝ }
+{
+    let mut marks = [0u8; 256];
+    let mut lengths = [0u8; 256];
+    let mut last = [0u16; 256];
+    let mut before = [0u16; 256];
+    search(table, &mut marks, &mut lengths, &mut last, &mut before, n)
 }
 
 // The lowest of the first n records that breaks a rule.
@@ -181,26 +240,12 @@ pub fn broken(table: &[u32], n: u32) -> Found
     requires { ⌜ (n ≤ 4096) × (4 * n ≤ length (now table)) ⌝ }
     ensures { λ r. ⌜ r ≡ broken (now (table .entry)) n ⌝ }
 {
+    if n <= 256 {
+        return broken_small(table, n);
+    }
     let mut marks = [0u8; 4096];
     let mut lengths = [0u8; 4096];
-    let mut types = [0u32; 4096];
-    let mut count = 0;
-    let mut r = 0;
-    while r < n {
-        if !shaped(table, r) {
-            return Found::At(r);
-        }
-        if !listed(table, &mut lengths, r) {
-            return Found::At(r);
-        }
-        let Found::At(more) = add_type(table, &mut types, count, r) else {
-            return Found::At(r);
-        };
-        if !first_use(table, &mut marks, r) {
-            return Found::At(r);
-        }
-        count = more;
-        r += 1;
-    }
-    Found::Nowhere
+    let mut last = [0u16; 4096];
+    let mut before = [0u16; 4096];
+    search(table, &mut marks, &mut lengths, &mut last, &mut before, n)
 }

@@ -17,7 +17,7 @@ returns-2 : tie.Need-returns-2
 returns-2 c = mark-uncounted _ _ _ _ (sym (c .before .before .before .refers .ensures) ∙ not-false _ (c .before .before .if1 .left)) (sym (c .before .counted .ensures) ∙ not-true _ (c .if2 .taken))
 
 slice-read-if3 : tie.Need-slice-read-if3
-slice-read-if3 c = let room = c .before .before .before .before .before .before .before .pre .room in let low = c .before .before .before .before .before .before .before .pre .low (sym (c .before .before .before .before .refers .ensures) ∙ not-false _ (c .before .before .before .if1 .left)) in omega arith
+slice-read-if3 c = let low = c .before .before .before .before .before .before .before .pre .low (sym (c .before .before .before .before .refers .ensures) ∙ not-false _ (c .before .before .before .if1 .left)) in omega arith
 
 returns-3 : tie.Need-returns-3
 returns-3 c =
@@ -25,7 +25,7 @@ returns-3 c =
     mark-old _ _ _ _ refers (sym (c .before .before .before .counted .ensures) ∙ not-false _ (c .before .before .if2 .left)) (c .before .before .before .before .before .before .before .before .pre .low refers) (c .if3 .taken)
 
 slice-write-marks : tie.Need-slice-write-marks
-slice-write-marks c = let room = c .before .before .before .before .before .before .before .before .pre .room in let low = c .before .before .before .before .before .before .before .before .pre .low (sym (c .before .before .before .before .before .refers .ensures) ∙ not-false _ (c .before .before .before .before .if1 .left)) in omega arith
+slice-write-marks c = let low = c .before .before .before .before .before .before .before .before .pre .low (sym (c .before .before .before .before .before .refers .ensures) ∙ not-false _ (c .before .before .before .before .if1 .left)) in omega arith
 
 returns-4 : tie.Need-returns-4
 returns-4 c =
