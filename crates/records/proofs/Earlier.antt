@@ -186,6 +186,12 @@ module _ (ws la be : List ℕ) (r : ℕ) (x : Record) (p : TypeAsks ws la be r x
     member : both (isType ws (j - 1)) (eqb (fieldB ws (j - 1)) (fieldB ws r)) ≡ true
     member = latest-member ws (fieldB ws r) (j - 1) (rw one-less at (s .own))
 
+    before-is : getD be (j - 1) 0 ≡ latest ws (fieldB ws r) (j - 1)
+    before-is = let m = both-true _ _ member in p .known .before (j - 1) at-low (m .0) ∙ ap (λ k. latest ws k (j - 1)) (eqb-true _ _ (m .1))
+
+    pub search-falls : getD be (j - 1) 0 < j
+    search-falls = let e = before-is in let l = latest-low ws (fieldB ws r) (j - 1) in omega arith
+
     module _ (b : Bool) (eb : b ≡ equals ws (j - 1) x) where
       step : new-type ws r ≡ both (not b) (all (differs ws r) (below (j - 1)))
       step = s .left ∙ ap (λ i. all (differs ws r) (below i)) one-less ∙ all-below (differs ws r) (j - 1) ∙ rw (differs-is ws r (j - 1) x (p .words), ← eb)
@@ -202,12 +208,6 @@ module _ (ws la be : List ℕ) (r : ℕ) (x : Record) (p : TypeAsks ws la be r x
         where
           passed : new-type ws r ≡ all (differs ws r) (below (j - 1))
           passed = step ∙ (unfold both in rw t)
-
-          before-is : getD be (j - 1) 0 ≡ latest ws (fieldB ws r) (j - 1)
-          before-is = let m = both-true _ _ member in p .known .before (j - 1) at-low (m .0) ∙ ap (λ k. latest ws k (j - 1)) (eqb-true _ _ (m .1))
-
-      pub search-falls : getD be (j - 1) 0 < j
-      search-falls = let m = both-true _ _ member in let e = p .known .before (j - 1) at-low (m .0) in let l = latest-low ws (fieldB ws (j - 1)) (j - 1) in omega arith
 
   pub search-end : (j : ℕ) → Searched ws r j → j ≡ 0 → TypeSays ws (set la (x .b) (r + 1)) (set be r (getD la (x .b) 0)) r true
   search-end j s z = record {

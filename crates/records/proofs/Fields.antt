@@ -59,6 +59,9 @@ module _ (ws ms : List ℕ) (r : ℕ) (x : Record) (a b c : Field) (p : RowAsks 
   abbrev U : List ℕ
   U = used ws r
 
+  pub next-field : (ms₁ : List ℕ) → length ms₁ ≡ length ms → FieldAsks ws ms₁ r
+  next-field ms₁ e = record { above = p .above; room = let h = p .room in omega arith }
+
   uses-is : uses ws r ≡ A ++ (B ++ C)
   unfolding uses counts
   uses-is =

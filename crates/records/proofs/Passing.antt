@@ -8,12 +8,13 @@ use native.Mathlib.Omega.{arith}
 use native.Mathlib.Decide.{ℕ-discrete}
 use borrow.Author.Tests.{ltb-true, eqb-true}
 use lib.ListN.{length, getD, replicate, length-replicate, getD-replicate, List·getD-eq-default}
+use Rattle.rules.specs.declared.Found.the-variants.{At, Nowhere}
 use Rattle.rules.specs.Lists.{both}
 use Rattle.rules.specs.Words.{BT, AR, CE, tag, fieldB, isType}
 use Rattle.rules.specs.Records.{never, nil, type, element, rest, shapes, shape, fits, shaped, listed, new-type, first-use, keeps, broken}
 use Rattle.laws.specs.Tests.{false-true, both-true}
 use Rattle.laws.specs.Sound.{Sound, type-tag}
-use Rattle.laws.specs.Search.{ahead, ahead-start}
+use Rattle.laws.specs.Search.{ahead, ahead-start, ahead-on, ahead-stop, ahead-end}
 use Rattle.table.specs.declared.Record.{Record}
 use Rattle.table.specs.Reading.{IsRecord}
 use Rattle.fields.specs.declared.Field.{Field}
@@ -28,13 +29,13 @@ use Rattle.records.proofs.Uses.{marked-start}
 
 -- The start
 
-pub room-start : (k n : ℕ) → n ≤ k → Room (replicate k 0) (replicate k 0) (replicate k 0) (replicate k 0) n
+room-start : (k n : ℕ) → n ≤ k → Room (replicate k 0) (replicate k 0) (replicate k 0) (replicate k 0) n
 room-start k n h = record { marks = long; lengths = long; last = long; before = long }
   where
     long : n ≤ length (replicate {A = ℕ} k 0)
     long = simp length-replicate h
 
-pub passed-start : (ws : List ℕ) (k : ℕ) → Passed ws (replicate k 0) (replicate k 0) (replicate k 0) (replicate k 0) 0
+passed-start : (ws : List ℕ) (k : ℕ) → Passed ws (replicate k 0) (replicate k 0) (replicate k 0) (replicate k 0) 0
 passed-start ws k = record {
   lower = λ r h. absurd (omega arith);
   marks = unfold used in marked-start k;
@@ -42,9 +43,9 @@ passed-start ws k = record {
   chains = record { last = λ b h. getD-replicate {A = ℕ} k b 0 0 (simp length-replicate at h) ∙ (unfold latest in refl); before = λ j h t. absurd (omega arith) };
 }
 
-pub search-start : (ws : List ℕ) (n : ℕ) → broken ws n ≡ ahead n (λ r. not (keeps ws r)) 0
-unfolding broken
-search-start ws n = ahead-start n (λ r. not (keeps ws r))
+-- arrays of k zeros serve for at most k records
+pub search-asks : (ws : List ℕ) (k n : ℕ) → k ≤ 4096 → (n ≤ k) × (4 * n ≤ length ws) → SearchAsks ws (replicate k 0) (replicate k 0) (replicate k 0) (replicate k 0) n
+search-asks ws k n h p = let l = p .0 in record { inside = p .1; few = omega arith; room = room-start k n l; start = passed-start ws k }
 
 -- The rules of a record
 
@@ -256,3 +257,65 @@ module _ (ws ms ls la be : List ℕ) (r : ℕ) (p : RecordAsks ws ms ls la be r)
 
 pub past : (k m : ℕ) → m ≤ k → (k ≡ m → ⊥) → m + 1 ≤ k
 past k m h n = omega arith
+
+-- The search
+
+-- the records below r are passed, with as many marks as before
+pub record Going (ws ms₀ ls₀ la₀ be₀ ms ls la be : List ℕ) (n r : ℕ) : Type 0 where
+  pub passed : Passed ws ms ls la be r
+  pub low : r ≤ n
+  pub left : broken ws n ≡ ahead n (λ i. not (keeps ws i)) r
+  pub marks : length ms ≡ length ms₀
+  pub lengths : length ls ≡ length ls₀
+  pub last : length la ≡ length la₀
+  pub before : length be ≡ length be₀
+
+pub going-start : (ws ms ls la be : List ℕ) (n : ℕ) → SearchAsks ws ms ls la be n → Going ws ms ls la be ms ls la be n 0
+going-start ws ms ls la be n p = record {
+  passed = p .start;
+  low = omega arith;
+  left = unfold broken in ahead-start n (λ r. not (keeps ws r));
+  marks = refl;
+  lengths = refl;
+  last = refl;
+  before = refl;
+}
+
+module _ (ws ms₀ ls₀ la₀ be₀ ms ls la be : List ℕ) (n r : ℕ) (g : Going ws ms₀ ls₀ la₀ be₀ ms ls la be n r) where
+  pub going-end : n ≤ r → Nowhere ≡ broken ws n
+  going-end h = sym (g .left ∙ ahead-end n _ r h)
+
+  pub going-asks : SearchAsks ws ms₀ ls₀ la₀ be₀ n → r < n → RecordAsks ws ms ls la be r
+  going-asks p h =
+      let i = p .inside in
+      let f = p .few in
+      let a = p .room .marks in
+      let b = p .room .lengths in
+      let c = p .room .last in
+      let d = p .room .before in
+      let a′ = g .marks in
+      let b′ = g .lengths in
+      let c′ = g .last in
+      let d′ = g .before in
+      record {
+        inside = omega arith;
+        few = omega arith;
+        room = record { marks = omega arith; lengths = omega arith; last = omega arith; before = omega arith };
+        passed = g .passed;
+      }
+
+  module _ (h : r < n) (ms₁ ls₁ la₁ be₁ : List ℕ) (b : Bool) (s : RecordSays ws ms₁ ls₁ la₁ be₁ r b) where
+    pub going-stop : b ≡ false → At r ≡ broken ws n
+    going-stop t = sym (g .left ∙ ahead-stop n _ r h (rw (← s .answer, t) refl))
+
+    pub going-on : b ≡ true → length ms₁ ≡ length ms → length ls₁ ≡ length ls → length la₁ ≡ length la → length be₁ ≡ length be
+        → Going ws ms₀ ls₀ la₀ be₀ ms₁ ls₁ la₁ be₁ n (r + 1)
+    going-on t lm ll la be = record {
+      passed = s .next t;
+      low = omega arith;
+      left = g .left ∙ ahead-on n _ r h (rw (← s .answer, t) refl);
+      marks = lm ∙ g .marks;
+      lengths = ll ∙ g .lengths;
+      last = la ∙ g .last;
+      before = be ∙ g .before;
+    }

@@ -1,38 +1,30 @@
+-- `records::cell_keeps` meets its contract.
 use borrow.Author.Needs.{needs}
+use borrow.Author.Tests.{not-true, not-false}
+use Rattle.records.proofs.Passing.{cell-row, cell-breaks, list-asks, cell-says}
 use Rattle.records.proofs.cell_keeps.Statement.{statement}
 use Rattle.records.proofs.cell_keeps.Tie as tie
-use Rattle.records.proofs.cell_keeps.Reads as reads
-use Rattle.records.proofs.cell_keeps.Lts as lts
-use Rattle.records.proofs.listed.Reads as listed-reads
-use Rattle.records.proofs.row_keeps.Reads as row-keeps-reads
 
--- src/lib.rt:183:9
 row-keeps-requires : tie.Need-row-keeps-requires
-row-keeps-requires c κs = ?
+row-keeps-requires c κs = cell-row _ _ _ _ _ (c .before .before .before .before .pre)
 
--- src/lib.rt:184:9
 same-length : tie.Need-same-length
-same-length c = search needs
+same-length c = c .before .before .before .row-keeps .kept .1 .0
 
--- src/lib.rt:184:9
 returns : tie.Need-returns
-returns c = ?
+returns c = cell-breaks _ _ _ _ _ (c .before .before .before .before .before .before .before .before .pre) _ _ (c .before .before .before .row-keeps .ensures) (not-true _ (c .if1 .taken))
 
--- src/lib.rt:186:5
 listed-requires : tie.Need-listed-requires
-listed-requires c κs = ?
+listed-requires c κs = list-asks _ _ _ _ _ (c .before .before .before .before .before .before .before .before .before .pre) _ _ (c .before .before .before .before .row-keeps .ensures) (not-false _ (c .before .if1 .left))
 
--- src/lib.rt:179:1
 same-length-2 : tie.Need-same-length-2
-same-length-2 c = search needs
+same-length-2 c = c .before .before .before .before .before .before .before .row-keeps .kept .1 .0
 
--- src/lib.rt:179:1
 same-length-3 : tie.Need-same-length-3
-same-length-3 c = search needs
+same-length-3 c = c .before .before .listed .kept .1 .0
 
--- src/lib.rt:179:1
 returns-2 : tie.Need-returns-2
-returns-2 c = ?
+returns-2 c = cell-says _ _ _ _ _ (c .before .before .before .before .before .before .before .before .before .before .before .before .pre) _ _ (c .before .before .before .before .before .before .before .row-keeps .ensures) (not-false _ (c .before .before .before .before .if1 .left)) _ _ (c .before .before .listed .ensures)
 
 pub cell-keeps-spec : {M : Type 1} → statement M
 cell-keeps-spec =

@@ -1,87 +1,61 @@
+-- `records::listed` meets its contract.
+use mathlib.Core.Path.{sym, ap, _∙_}
+use native.Mathlib.Omega.{arith}
+use borrow.Author.Tests.{not-true, not-false}
 use borrow.Author.Needs.{needs}
+use denote.Ref.{now}
+use lib.ListN.{getD}
+use Rattle.rules.specs.Words.{tag, fieldA}
+use Rattle.records.proofs.Lengths.{element-low, rest-low, next-low, list-one, list-mixed, list-long, list-more}
 use Rattle.records.proofs.listed.Statement.{statement}
 use Rattle.records.proofs.listed.Tie as tie
-use Rattle.records.proofs.listed.Reads as reads
-use Rattle.records.proofs.listed.Lts as lts
-use Rattle.records.proofs.alike_tags.Reads as alike-tags-reads
-use Rattle.table.proofs.read.Reads as read-reads
 
--- src/lib.rt:40:9
 slice-write-lengths : tie.Need-slice-write-lengths
-slice-write-lengths c = search needs
+slice-write-lengths c = c .before .before .before .before .pre .room
 
--- src/lib.rt:41:9
-same-length : tie.Need-same-length
-same-length c = search needs
-
--- src/lib.rt:41:9
 returns : tie.Need-returns
-returns c = ?
+returns c = list-one _ _ (c .before .before .before .before .pre .above) (c .before .before .before .before .pre .so) (c .before .before .before .before .pre .cell) _ (c .before .before .before .before .pre .room) (sym (c .before .before .before .before .pre .words .b-is) ∙ c .if1 .taken) (c .before .before .before .before .pre .known)
 
--- src/lib.rt:43:9
 read-requires : tie.Need-read-requires
-read-requires c κs = ?
+read-requires c κs = let low = rest-low _ _ (c .before .before .before .before .pre .above) (c .before .before .before .before .pre .so) (c .before .before .before .before .pre .cell) (λ q. c .if1 .left (c .before .before .before .before .pre .words .b-is ∙ q)) .0 in let inside = c .before .before .before .before .pre .above .inside in let e = c .before .before .before .before .pre .words .b-is in omega arith
 
--- src/lib.rt:44:9
 read-requires-2 : tie.Need-read-requires-2
-read-requires-2 c κs = ?
+read-requires-2 c κs = let low = element-low _ _ (c .before .before .before .before .before .pre .above) (c .before .before .before .before .before .pre .so) (c .before .before .before .before .before .pre .cell) in let inside = c .before .before .before .before .before .pre .above .inside in let e = c .before .before .before .before .before .pre .words .a-is in omega arith
 
--- src/lib.rt:45:9
 read-requires-3 : tie.Need-read-requires-3
-read-requires-3 c κs = ?
+read-requires-3 c κs = rw (c .before .read .ensures .a-is, c .before .before .before .before .before .before .pre .words .b-is) (let low = rest-low _ _ (c .before .before .before .before .before .before .pre .above) (c .before .before .before .before .before .before .pre .so) (c .before .before .before .before .before .before .pre .cell) (λ q. c .before .before .if1 .left (c .before .before .before .before .before .before .pre .words .b-is ∙ q)) .0 in let lower = next-low _ _ (c .before .before .before .before .before .before .pre .above) (c .before .before .before .before .before .before .pre .so) (c .before .before .before .before .before .before .pre .cell) (λ q. c .before .before .if1 .left (c .before .before .before .before .before .before .pre .words .b-is ∙ q)) in let inside = c .before .before .before .before .before .before .pre .above .inside in omega arith)
 
--- src/lib.rt:46:9
-alike-tags-requires : tie.Need-alike-tags-requires
-alike-tags-requires c κs = search needs
-
--- src/lib.rt:47:9
 returns-2 : tie.Need-returns-2
-returns-2 c = ?
+returns-2 c = list-mixed _ _ (c .before .before .before .before .before .before .before .before .before .pre .above) (c .before .before .before .before .before .before .before .before .before .pre .so) (c .before .before .before .before .before .before .before .before .before .pre .cell) (λ q. c .before .before .before .before .before .if1 .left (c .before .before .before .before .before .before .before .before .before .pre .words .b-is ∙ q)) _ _ _ (c .before .alike-tags .ensures) (c .before .before .before .read2 .ensures .tag-is ∙ ap (tag (now (c .before .before .before .before .before .before .before .before .before .args .table))) (c .before .before .before .before .before .before .before .before .before .pre .words .a-is)) (c .before .before .read3 .ensures .tag-is ∙ ap (tag (now (c .before .before .before .before .before .before .before .before .before .args .table))) (c .before .before .before .before .read .ensures .a-is ∙ ap (fieldA (now (c .before .before .before .before .before .before .before .before .before .args .table))) (c .before .before .before .before .before .before .before .before .before .pre .words .b-is))) _ (not-true _ (c .if2 .taken))
 
--- src/lib.rt:49:16
-cast-rest : tie.Need-cast-rest
-cast-rest c = search needs
-
--- src/lib.rt:50:17
 slice-read-count : tie.Need-slice-read-count
-slice-read-count c = ?
+slice-read-count c = let low = rest-low _ _ (c .before .before .before .before .before .before .before .before .before .before .before .pre .above) (c .before .before .before .before .before .before .before .before .before .before .before .pre .so) (c .before .before .before .before .before .before .before .before .before .before .before .pre .cell) (λ q. c .before .before .before .before .before .before .before .if1 .left (c .before .before .before .before .before .before .before .before .before .before .before .pre .words .b-is ∙ q)) .0 in let room = c .before .before .before .before .before .before .before .before .before .before .before .pre .room in let e = c .before .before .before .before .before .before .before .before .before .before .before .pre .words .b-is in omega arith
 
--- src/lib.rt:52:23
-add-lengths : tie.Need-add-lengths
-add-lengths c = search needs
-
--- src/lib.rt:52:9
 slice-write-lengths-2 : tie.Need-slice-write-lengths-2
-slice-write-lengths-2 c = search needs
+slice-write-lengths-2 c = c .before .before .before .before .before .before .before .before .before .before .before .before .pre .room
 
--- src/lib.rt:53:9
-same-length-2 : tie.Need-same-length-2
-same-length-2 c = search needs
-
--- src/lib.rt:53:9
 returns-3 : tie.Need-returns-3
-returns-3 c = ?
+returns-3 c = list-more _ _ (c .before .before .before .before .before .before .before .before .before .before .before .before .pre .above) (c .before .before .before .before .before .before .before .before .before .before .before .before .pre .so) (c .before .before .before .before .before .before .before .before .before .before .before .before .pre .cell) (λ q. c .before .before .before .before .before .before .before .before .if1 .left (c .before .before .before .before .before .before .before .before .before .before .before .before .pre .words .b-is ∙ q)) _ _ _ (c .before .before .before .before .alike-tags .ensures) (c .before .before .before .before .before .before .read2 .ensures .tag-is ∙ ap (tag (now (c .before .before .before .before .before .before .before .before .before .before .before .before .args .table))) (c .before .before .before .before .before .before .before .before .before .before .before .before .pre .words .a-is)) (c .before .before .before .before .before .read3 .ensures .tag-is ∙ ap (tag (now (c .before .before .before .before .before .before .before .before .before .before .before .before .args .table))) (c .before .before .before .before .before .before .before .read .ensures .a-is ∙ ap (fieldA (now (c .before .before .before .before .before .before .before .before .before .before .before .before .args .table))) (c .before .before .before .before .before .before .before .before .before .before .before .before .pre .words .b-is))) _ (c .before .before .before .before .before .before .before .before .before .before .before .before .pre .room) (c .before .before .before .before .before .before .before .before .before .before .before .before .pre .known) (not-false _ (c .before .before .before .if2 .left)) _ (ap (λ i. getD (now (c .before .before .before .before .before .before .before .before .before .before .before .before .args .lengths)) i 0) (c .before .before .before .before .before .before .before .before .before .before .before .before .pre .words .b-is)) (c .if3 .taken)
 
--- src/lib.rt:34:1
 returns-4 : tie.Need-returns-4
-returns-4 c = ?
+returns-4 c = list-long _ _ (c .before .before .before .before .before .before .before .before .before .before .before .before .pre .above) (c .before .before .before .before .before .before .before .before .before .before .before .before .pre .so) (c .before .before .before .before .before .before .before .before .before .before .before .before .pre .cell) (λ q. c .before .before .before .before .before .before .before .before .if1 .left (c .before .before .before .before .before .before .before .before .before .before .before .before .pre .words .b-is ∙ q)) _ _ _ (c .before .before .before .before .alike-tags .ensures) (c .before .before .before .before .before .before .read2 .ensures .tag-is ∙ ap (tag (now (c .before .before .before .before .before .before .before .before .before .before .before .before .args .table))) (c .before .before .before .before .before .before .before .before .before .before .before .before .pre .words .a-is)) (c .before .before .before .before .before .read3 .ensures .tag-is ∙ ap (tag (now (c .before .before .before .before .before .before .before .before .before .before .before .before .args .table))) (c .before .before .before .before .before .before .before .read .ensures .a-is ∙ ap (fieldA (now (c .before .before .before .before .before .before .before .before .before .before .before .before .args .table))) (c .before .before .before .before .before .before .before .before .before .before .before .before .pre .words .b-is))) _ (c .before .before .before .before .before .before .before .before .before .before .before .before .pre .room) (c .before .before .before .before .before .before .before .before .before .before .before .before .pre .known) (not-false _ (c .before .before .before .if2 .left)) _ (ap (λ i. getD (now (c .before .before .before .before .before .before .before .before .before .before .before .before .args .lengths)) i 0) (c .before .before .before .before .before .before .before .before .before .before .before .before .pre .words .b-is)) (c .if3 .left)
 
 pub listed-spec : {M : Type 1} → statement M
 listed-spec =
     tie.close
     (tie.spec
     slice-write-lengths
-    same-length
+    (λ c. search needs)
     returns
     read-requires
     read-requires-2
     read-requires-3
-    alike-tags-requires
+    (λ c κs. search needs)
     returns-2
-    cast-rest
+    (λ c. search needs)
     slice-read-count
-    add-lengths
+    (λ c. search needs)
     slice-write-lengths-2
-    same-length-2
+    (λ c. search needs)
     returns-3
     returns-4)

@@ -1,102 +1,74 @@
+-- `records::new_type` meets its contract.
+use mathlib.Core.Path.{_∙_}
+use native.Mathlib.Omega.{arith}
+use borrow.Author.Needs.{needs}
+use lib.ListN.{length-set}
+use Rattle.records.proofs.Earlier.{Searched, key-low, search-start, at-low, search-stop, search-on, search-falls, search-end}
 use Rattle.records.proofs.new_type.Statement.{statement}
 use Rattle.records.proofs.new_type.Tie as tie
-use Rattle.records.proofs.new_type.Reads as reads
-use Rattle.records.proofs.new_type.Lts as lts
-use Rattle.records.proofs.equal.Reads as equal-reads
 
 abbrev Inv-loop : tie.InvT-loop
-Inv-loop table last before r x key top j₀ j = ?
+Inv-loop table last before r x key top j₀ j = Searched table r j
 
 abbrev μ-loop : tie.MeasureT-loop
-μ-loop table last before r x key top j₀ j = ?
+μ-loop table last before r x key top j₀ j = j
 
--- src/lib.rt:79:15
-cast-key : tie.Need-cast-key Inv-loop μ-loop
-cast-key c = ?
-
--- src/lib.rt:80:15
 mul-top : tie.Need-mul-top Inv-loop μ-loop
-mul-top c = ?
+mul-top c = let key = c .before .before .before .before .pre .key in let few = c .before .before .before .before .pre .few in let e = c .before .before .before .before .pre .words .b-is in omega arith
 
--- src/lib.rt:80:15
 slice-read-top : tie.Need-slice-read-top Inv-loop μ-loop
-slice-read-top c = ?
+slice-read-top c = key-low _ _ _ _ _ (c .before .before .before .before .before .pre)
 
--- src/lib.rt:82:5
 loop-holds : tie.Need-loop-holds Inv-loop μ-loop
-loop-holds c = ?
+loop-holds c = search-start _ _ _ _ _ (c .before .before .before .before .before .pre)
 
--- src/lib.rt:83:18
 sub-at : tie.Need-sub-at Inv-loop μ-loop
-sub-at c = ?
+sub-at c = let test = c .loop-test .taken in omega arith
 
--- src/lib.rt:84:25
-cast-equal : tie.Need-cast-equal Inv-loop μ-loop
-cast-equal c = ?
-
--- src/lib.rt:84:12
 equal-requires : tie.Need-equal-requires Inv-loop μ-loop
-equal-requires c κs = ?
+equal-requires c κs = let low = at-low _ _ _ _ _ (c .before .before .before .before .before .before .before .pre) _ (c .before .loop .inv) (c .loop-test .taken) in let inside = c .before .before .before .before .before .before .before .pre .inside in omega arith
 
--- src/lib.rt:85:13
 returns : tie.Need-returns Inv-loop μ-loop
-returns c = ?
+returns c = search-stop _ _ _ _ _ (c .before .before .before .before .before .before .before .before .before .pre) _ (c .before .before .before .loop .inv) (c .before .before .loop-test .taken) _ (c .before .equal .ensures) (c .if1 .taken)
 
--- src/lib.rt:87:20
-cast-j : tie.Need-cast-j Inv-loop μ-loop
-cast-j c = ?
-
--- src/lib.rt:87:13
 mul-j : tie.Need-mul-j Inv-loop μ-loop
-mul-j c = ?
+mul-j c = let low = at-low _ _ _ _ _ (c .before .before .before .before .before .before .before .before .before .pre) _ (c .before .before .before .loop .inv) (c .before .before .loop-test .taken) in let few = c .before .before .before .before .before .before .before .before .before .pre .few in omega arith
 
--- src/lib.rt:87:13
 slice-read-j : tie.Need-slice-read-j Inv-loop μ-loop
-slice-read-j c = ?
+slice-read-j c = let low = at-low _ _ _ _ _ (c .before .before .before .before .before .before .before .before .before .before .pre) _ (c .before .before .before .before .loop .inv) (c .before .before .before .loop-test .taken) in let room = c .before .before .before .before .before .before .before .before .before .before .pre .room-before in omega arith
 
--- src/lib.rt:82:5
 loop-less : tie.Need-loop-less Inv-loop μ-loop
-loop-less c = ?
+loop-less c = search-falls _ _ _ _ _ (c .before .before .before .before .before .before .before .before .before .before .pre) _ (c .before .before .before .before .loop .inv) (c .before .before .before .loop-test .taken)
 
--- src/lib.rt:82:5
 loop-again : tie.Need-loop-again Inv-loop μ-loop
-loop-again c = ?
+loop-again c = search-on _ _ _ _ _ (c .before .before .before .before .before .before .before .before .before .before .pre) _ (c .before .before .before .before .loop .inv) (c .before .before .before .loop-test .taken) _ (c .before .before .equal .ensures) (c .before .if1 .left)
 
--- src/lib.rt:89:5
 mul-before : tie.Need-mul-before Inv-loop μ-loop
-mul-before c = ?
+mul-before c = let few = c .before .before .before .before .before .before .before .pre .few in omega arith
 
--- src/lib.rt:89:5
 slice-write-before : tie.Need-slice-write-before Inv-loop μ-loop
-slice-write-before c = ?
+slice-write-before c = c .before .before .before .before .before .before .before .pre .room-before
 
--- src/lib.rt:90:18
 add-last : tie.Need-add-last Inv-loop μ-loop
-add-last c = ?
+add-last c = let few = c .before .before .before .before .before .before .before .pre .few in omega arith
 
--- src/lib.rt:90:17
 cast-last : tie.Need-cast-last Inv-loop μ-loop
-cast-last c = ?
+cast-last c = let few = c .before .before .before .before .before .before .before .pre .few in omega arith
 
--- src/lib.rt:90:5
 mul-last : tie.Need-mul-last Inv-loop μ-loop
-mul-last c = ?
+mul-last c = let key = c .before .before .before .before .before .before .before .pre .key in let few = c .before .before .before .before .before .before .before .pre .few in let e = c .before .before .before .before .before .before .before .pre .words .b-is in omega arith
 
--- src/lib.rt:90:5
 slice-write-last : tie.Need-slice-write-last Inv-loop μ-loop
-slice-write-last c = ?
+slice-write-last c = key-low _ _ _ _ _ (c .before .before .before .before .before .before .before .pre)
 
--- src/lib.rt:75:1
 same-length : tie.Need-same-length Inv-loop μ-loop
-same-length c = ?
+same-length c = simp length-set
 
--- src/lib.rt:75:1
 same-length-2 : tie.Need-same-length-2 Inv-loop μ-loop
-same-length-2 c = ?
+same-length-2 c = simp length-set
 
--- src/lib.rt:75:1
 returns-2 : tie.Need-returns-2 Inv-loop μ-loop
-returns-2 c = ?
+returns-2 c = search-end _ _ _ _ _ (c .before .before .before .before .before .before .before .pre) _ (c .before .loop .inv) (c .loop-test .left)
 
 pub new-type-spec : {M : Type 1} → statement M
 new-type-spec =
@@ -104,15 +76,15 @@ new-type-spec =
     (tie.spec
     Inv-loop
     μ-loop
-    cast-key
+    (λ c. search needs)
     mul-top
     slice-read-top
     loop-holds
     sub-at
-    cast-equal
+    (λ c. search needs)
     equal-requires
     returns
-    cast-j
+    (λ c. search needs)
     mul-j
     slice-read-j
     loop-less

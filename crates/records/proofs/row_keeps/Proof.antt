@@ -1,45 +1,36 @@
-use borrow.Author.Needs.{needs}
+-- `records::row_keeps` meets its contract.
+use mathlib.Core.Path.{refl, _∙_}
+use borrow.Author.Tests.{not-true, not-false}
+use Rattle.records.proofs.Fields.{next-field, row-a, row-b, row-c}
 use Rattle.records.proofs.row_keeps.Statement.{statement}
 use Rattle.records.proofs.row_keeps.Tie as tie
-use Rattle.records.proofs.row_keeps.Reads as reads
-use Rattle.records.proofs.row_keeps.Lts as lts
-use Rattle.records.proofs.field_keeps.Reads as field-keeps-reads
 
--- src/lib.rt:158:9
 field-keeps-requires : tie.Need-field-keeps-requires
-field-keeps-requires c κs = search needs
+field-keeps-requires c κs = next-field _ _ _ _ _ _ _ (c .before .before .before .pre) _ refl
 
--- src/lib.rt:159:9
 same-length : tie.Need-same-length
-same-length c = search needs
+same-length c = c .before .before .before .field-keeps .kept .1 .0
 
--- src/lib.rt:159:9
 returns : tie.Need-returns
-returns c = ?
+returns c = row-a _ _ _ _ _ _ _ (c .before .before .before .before .before .before .before .pre) _ _ (c .before .before .before .field-keeps .ensures) (not-true _ (c .if1 .taken))
 
--- src/lib.rt:161:9
 field-keeps-requires-2 : tie.Need-field-keeps-requires-2
-field-keeps-requires-2 c κs = search needs
+field-keeps-requires-2 c κs = next-field _ _ _ _ _ _ _ (c .before .before .before .before .before .before .before .before .pre) _ (c .before .before .before .before .field-keeps .kept .1 .0)
 
--- src/lib.rt:162:9
 same-length-2 : tie.Need-same-length-2
-same-length-2 c = search needs
+same-length-2 c = c .before .before .before .field-keeps2 .kept .1 .0 ∙ c .before .before .before .before .before .before .before .before .field-keeps .kept .1 .0
 
--- src/lib.rt:162:9
 returns-2 : tie.Need-returns-2
-returns-2 c = ?
+returns-2 c = row-b _ _ _ _ _ _ _ (c .before .before .before .before .before .before .before .before .before .before .before .before .pre) _ _ (c .before .before .before .before .before .before .before .before .field-keeps .ensures) (not-false _ (c .before .before .before .before .before .if1 .left)) _ _ (c .before .before .before .field-keeps2 .ensures) (not-true _ (c .if2 .taken))
 
--- src/lib.rt:164:5
 field-keeps-requires-3 : tie.Need-field-keeps-requires-3
-field-keeps-requires-3 c κs = search needs
+field-keeps-requires-3 c κs = next-field _ _ _ _ _ _ _ (c .before .before .before .before .before .before .before .before .before .before .before .before .before .pre) _ (c .before .before .before .before .field-keeps2 .kept .1 .0 ∙ c .before .before .before .before .before .before .before .before .before .field-keeps .kept .1 .0)
 
--- src/lib.rt:154:1
 same-length-3 : tie.Need-same-length-3
-same-length-3 c = search needs
+same-length-3 c = c .before .before .field-keeps3 .kept .1 .0 ∙ c .before .before .before .before .before .before .before .field-keeps2 .kept .1 .0 ∙ c .before .before .before .before .before .before .before .before .before .before .before .before .field-keeps .kept .1 .0
 
--- src/lib.rt:154:1
 returns-3 : tie.Need-returns-3
-returns-3 c = ?
+returns-3 c = row-c _ _ _ _ _ _ _ (c .before .before .before .before .before .before .before .before .before .before .before .before .before .before .before .before .pre) _ _ (c .before .before .before .before .before .before .before .before .before .before .before .before .field-keeps .ensures) (not-false _ (c .before .before .before .before .before .before .before .before .before .if1 .left)) _ _ (c .before .before .before .before .before .before .before .field-keeps2 .ensures) _ _ (not-false _ (c .before .before .before .before .if2 .left)) (c .before .before .field-keeps3 .ensures)
 
 pub row-keeps-spec : {M : Type 1} → statement M
 row-keeps-spec =
