@@ -1,9 +1,8 @@
 -- The kinds of fields as code names them, and the tests of tags that decide what fits.
 use Prim.Native.Nat.{ℕ, _+_, _*_, _<_}
-use mathlib.Core.Path.{_≡_}
 use mathlib.Core.Bool.{Bool, true, false}
 use mathlib.Core.List.{List}
-use lib.ListN.{length, getD}
+use lib.ListN.{length}
 use lib.Dec.{eqb, ltb, leb}
 use Rattle.rules.specs.Lists.{both}
 use Rattle.rules.specs.Words.{CE, tag, fieldA}

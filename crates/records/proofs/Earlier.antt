@@ -162,12 +162,12 @@ module _ (ws : List ℕ) (r : ℕ) where
   unfolding new-type either differs
   new-is e = rw e
 
-module _ (ws la be : List ℕ) (r : ℕ) (x : Record) (p : TypeAsks ws la be r x) where
+module _ (ws la be : List ℕ) (r : ℕ) (p : TypeAsks ws la be r) (x : Record) (w : IsRecord ws r x) where
   pub key-low : x .b < length la
-  key-low = let k = p .key in let h = p .room-last in let e = p .words .b-is in omega arith
+  key-low = let k = p .key in let h = p .room-last in let e = w .b-is in omega arith
 
   top-is : getD la (x .b) 0 ≡ latest ws (fieldB ws r) r
-  top-is = p .known .last (x .b) key-low ∙ ap (λ b. latest ws b r) (p .words .b-is)
+  top-is = p .known .last (x .b) key-low ∙ ap (λ b. latest ws b r) (w .b-is)
 
   pub search-start : Searched ws r (getD la (x .b) 0)
   search-start = rw top-is (record {
@@ -194,7 +194,7 @@ module _ (ws la be : List ℕ) (r : ℕ) (x : Record) (p : TypeAsks ws la be r x
 
     module _ (b : Bool) (eb : b ≡ equals ws (j - 1) x) where
       step : new-type ws r ≡ both (not b) (all (differs ws r) (below (j - 1)))
-      step = s .left ∙ ap (λ i. all (differs ws r) (below i)) one-less ∙ all-below (differs ws r) (j - 1) ∙ rw (differs-is ws r (j - 1) x (p .words), ← eb)
+      step = s .left ∙ ap (λ i. all (differs ws r) (below i)) one-less ∙ all-below (differs ws r) (j - 1) ∙ rw (differs-is ws r (j - 1) x (w), ← eb)
 
       pub search-stop : b ≡ true → TypeSays ws la be r false
       search-stop t = record { answer = sym (step ∙ unfold both in rw t); next = λ q. absurd (false-true q) }
@@ -212,5 +212,5 @@ module _ (ws la be : List ℕ) (r : ℕ) (x : Record) (p : TypeAsks ws la be r x
   pub search-end : (j : ℕ) → Searched ws r j → j ≡ 0 → TypeSays ws (set la (x .b) (r + 1)) (set be r (getD la (x .b) 0)) r true
   search-end j s z = record {
     answer = sym (s .left ∙ ap (λ i. all (differs ws r) (below i)) z ∙ (unfold below in unfold from in unfold all in refl));
-    next = λ _. chains-next ws la be r (x .b) (getD la (x .b) 0) (p .type) (p .words .b-is) key-low (p .room-before) refl (p .known);
+    next = λ _. chains-next ws la be r (x .b) (getD la (x .b) 0) (p .type) (w .b-is) key-low (p .room-before) refl (p .known);
   }

@@ -1,5 +1,5 @@
 -- The fields of a record: each fits and is marked, one after the other.
-use Prim.Native.Nat.{ℕ, _+_, _<_, _≤_}
+use Prim.Native.Nat.{ℕ, _+_}
 use mathlib.Core.Path.{_≡_, refl, sym, ap, _∙_}
 use mathlib.Core.Bool.{Bool, true, false, not}
 use mathlib.Core.List.{List, _∷_, _++_}
@@ -7,13 +7,13 @@ use native.Mathlib.Omega.{arith}
 use native.Mathlib.Numerals.{add-one}
 use lib.ListN.{length}
 use Rattle.rules.specs.Lists.{both, either, among}
-use Rattle.rules.specs.Records.{shape, fits, shaped, reference, uses, first-use}
+use Rattle.rules.specs.Records.{fits, shaped, reference, uses, first-use}
 use Rattle.laws.specs.Tests.{false-true}
 use Rattle.table.specs.declared.Record.{Record}
 use Rattle.table.specs.Reading.{IsRecord}
 use Rattle.fields.specs.declared.Field.{Field}
 use Rattle.fields.specs.Kinds.{field}
-use Rattle.records.specs.Marks.{refersTo, counts, Marked, used, fresh, one, reference-of, MarkAsks, MarkSays}
+use Rattle.records.specs.Marks.{counts, Marked, used, fresh, one, reference-of, MarkAsks, MarkSays}
 use Rattle.records.specs.Rows.{FieldAsks, FieldSays, RowAsks, RowSays}
 use Rattle.records.proofs.Joined.{among-append, those-append, both-swap}
 use Rattle.records.proofs.Fresh.{first-use-is}
@@ -46,7 +46,10 @@ fresh-append true x u ys = go (not (among u x))
     go true = refl
     go false = refl
 
-module _ (ws ms : List ℕ) (r : ℕ) (x : Record) (a b c : Field) (p : RowAsks ws ms r x a b c) where
+pub next-field : (ws ms : List ℕ) (r : ℕ) (a b c : Field) → RowAsks ws ms r a b c → (ms₁ : List ℕ) → length ms₁ ≡ length ms → FieldAsks ws ms₁ r
+next-field ws ms r a b c p ms₁ e = record { above = p .above; room = let h = p .room in omega arith }
+
+module _ (ws ms : List ℕ) (r : ℕ) (a b c : Field) (p : RowAsks ws ms r a b c) (x : Record) (w : IsRecord ws r x) where
   abbrev A : List ℕ
   A = reference-of ws a (x .a)
 
@@ -59,13 +62,10 @@ module _ (ws ms : List ℕ) (r : ℕ) (x : Record) (a b c : Field) (p : RowAsks 
   abbrev U : List ℕ
   U = used ws r
 
-  pub next-field : (ms₁ : List ℕ) → length ms₁ ≡ length ms → FieldAsks ws ms₁ r
-  next-field ms₁ e = record { above = p .above; room = let h = p .room in omega arith }
-
   uses-is : uses ws r ≡ A ++ (B ++ C)
   unfolding uses counts
   uses-is =
-      rw (p .row, ← p .words .a-is, ← p .words .b-is, ← p .words .c-is)
+      rw (p .row, ← w .a-is, ← w .b-is, ← w .c-is)
       (those-append (counts ws) (reference (field a) (x .a)) (reference (field b) (x .b) ++ reference (field c) (x .c)) ∙
       rw (those-append (counts ws) (reference (field b) (x .b)) (reference (field c) (x .c)), one-is ws a (x .a), one-is ws b (x .b), one-is ws c (x .c)))
 
@@ -76,7 +76,7 @@ module _ (ws ms : List ℕ) (r : ℕ) (x : Record) (a b c : Field) (p : RowAsks 
 
   shaped-parts : shaped ws r ≡ both (fits ws r (field a) (x .a)) (both (fits ws r (field b) (x .b)) (fits ws r (field c) (x .c)))
   unfolding shaped
-  shaped-parts = rw (p .row, p .words .a-is, p .words .b-is, p .words .c-is)
+  shaped-parts = rw (p .row, w .a-is, w .b-is, w .c-is)
 
   row-parts : both (shaped ws r) (first-use ws r)
       ≡ both (both (fits ws r (field a) (x .a)) (fresh U A)) (both (both (fits ws r (field b) (x .b)) (fresh (A ++ U) B)) (both (fits ws r (field c) (x .c)) (fresh (B ++ (A ++ U)) C)))
@@ -88,7 +88,7 @@ module _ (ws ms : List ℕ) (r : ℕ) (x : Record) (a b c : Field) (p : RowAsks 
   module _ (ms₁ : List ℕ) (i : Bool) (hi : FieldSays ws ms ms₁ r a (x .a) i) where
     pub row-a : i ≡ false → RowSays ws ms₁ r false
     unfolding both
-    row-a t = record { answer = sym (row-parts ∙ rw (← hi .answer U (p .known), t)); next = λ w. absurd (false-true w) }
+    row-a t = record { answer = sym (row-parts ∙ rw (← hi .answer U (p .known), t)); next = λ y. absurd (false-true y) }
 
     module _ (t : i ≡ true) (ms₂ : List ℕ) (j : Bool) (hj : FieldSays ws ms₁ ms₂ r b (x .b) j) where
       after-a : Marked ms₁ (A ++ U)
@@ -96,7 +96,7 @@ module _ (ws ms : List ℕ) (r : ℕ) (x : Record) (a b c : Field) (p : RowAsks 
 
       pub row-b : j ≡ false → RowSays ws ms₂ r false
       unfolding both
-      row-b u = record { answer = sym (row-parts ∙ rw (← hi .answer U (p .known), t, ← hj .answer (A ++ U) after-a, u)); next = λ w. absurd (false-true w) }
+      row-b u = record { answer = sym (row-parts ∙ rw (← hi .answer U (p .known), t, ← hj .answer (A ++ U) after-a, u)); next = λ y. absurd (false-true y) }
 
       pub row-c : (ms₃ : List ℕ) (k : Bool) → j ≡ true → FieldSays ws ms₂ ms₃ r c (x .c) k → RowSays ws ms₃ r k
       unfolding both
@@ -104,7 +104,7 @@ module _ (ws ms : List ℕ) (r : ℕ) (x : Record) (a b c : Field) (p : RowAsks 
           let after-b = hj .next (A ++ U) after-a u in
           record {
             answer = sym (row-parts ∙ rw (← hi .answer U (p .known), t, ← hj .answer (A ++ U) after-a, u, ← hk .answer (B ++ (A ++ U)) after-b));
-            next = λ w. marked-same ms₃ _ _ together (hk .next (B ++ (A ++ U)) after-b w);
+            next = λ y. marked-same ms₃ _ _ together (hk .next (B ++ (A ++ U)) after-b y);
           }
         where
           order : (g h j k : Bool) → either j (either h (either g k)) ≡ either (either g (either h j)) k

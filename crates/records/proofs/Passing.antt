@@ -1,6 +1,6 @@
 -- A record keeps the rules, and the next is looked at.
 use Prim.Native.Nat.{ℕ, _+_, _*_, _<_, _≤_}
-use mathlib.Core.Path.{_≡_, refl, sym, ap, _∙_}
+use mathlib.Core.Path.{_≡_, refl, sym, _∙_}
 use mathlib.Core.Bool.{Bool, true, false, not}
 use mathlib.Core.List.{List}
 use mathlib.Core.Logic.{_⊎_, inl, inr}
@@ -11,7 +11,7 @@ use lib.ListN.{length, getD, replicate, length-replicate, getD-replicate, List·
 use Rattle.rules.specs.declared.Found.the-variants.{At, Nowhere}
 use Rattle.rules.specs.Lists.{both}
 use Rattle.rules.specs.Words.{BT, AR, CE, tag, fieldB, isType}
-use Rattle.rules.specs.Records.{never, nil, type, element, rest, shapes, shape, fits, shaped, listed, new-type, first-use, keeps, broken}
+use Rattle.rules.specs.Records.{never, shapes, shape, fits, shaped, listed, new-type, first-use, keeps, broken}
 use Rattle.laws.specs.Tests.{false-true, both-true}
 use Rattle.laws.specs.Sound.{Sound, type-tag}
 use Rattle.laws.specs.Search.{ahead, ahead-start, ahead-on, ahead-stop, ahead-end}
@@ -20,8 +20,8 @@ use Rattle.table.specs.Reading.{IsRecord}
 use Rattle.fields.specs.declared.Field.{Field}
 use Rattle.fields.specs.declared.Field.the-variants.{Nil, Element, Rest}
 use Rattle.fields.specs.Kinds.{field, typeTag, Above}
-use Rattle.records.specs.Marks.{Lengths, ListAsks, ListSays, Marked, used}
-use Rattle.records.specs.Chains.{latest, Chains, TypeAsks, TypeSays}
+use Rattle.records.specs.Marks.{ListAsks, ListSays, used}
+use Rattle.records.specs.Chains.{latest, TypeAsks, TypeSays}
 use Rattle.records.specs.Rows.{RowAsks, RowSays, TypeRowAsks, TypeRowSays, CellAsks, CellSays, Passed, Room, RecordAsks, RecordSays, SearchAsks}
 use Rattle.records.proofs.Lengths.{listed-other, lengths-other}
 use Rattle.records.proofs.Earlier.{chains-other, new-other}
@@ -95,22 +95,22 @@ module _ (ws : List ℕ) (r : ℕ) where
 
 -- A type
 
-module _ (ws ms la be : List ℕ) (r : ℕ) (x : Record) (a b : Field) (p : TypeRowAsks ws ms la be r x a b) (ms₁ : List ℕ) (k : Bool) (s : RowSays ws ms₁ r k) where
+module _ (ws ms la be : List ℕ) (r : ℕ) (a b : Field) (p : TypeRowAsks ws ms la be r a b) (ms₁ : List ℕ) (k : Bool) (s : RowSays ws ms₁ r k) where
   pub type-breaks : k ≡ false → TypeRowSays ws ms₁ la be r false
   type-breaks t = record { answer = row-breaks ws r ms₁ k s t; marks = λ w. absurd (false-true w); chains = λ w. absurd (false-true w) }
 
   module _ (t : k ≡ true) where
-    pub type-asks : TypeAsks ws la be r x
+    pub type-asks : TypeAsks ws la be r
     type-asks = record {
       inside = p .fields .above .inside;
       few = p .fields .above .few;
-      words = p .fields .words;
       type = p .type;
       key = key-low ws r (type-tag ws r (p .type)) (row-shaped ws r ms₁ k s t);
       room-last = p .room-last;
       room-before = p .room-before;
       known = p .known;
     }
+
     pub type-says : (la₁ be₁ : List ℕ) (y : Bool) → TypeSays ws la₁ be₁ r y → TypeRowSays ws ms₁ la₁ be₁ r y
     type-says la₁ be₁ y h = record {
       answer = h .answer ∙ sym (keeps-is ws r k (s .answer) ∙ (unfold both in rw (t, ← listed-other ws r (type-no-cell ws r (p .type)))));
@@ -120,11 +120,10 @@ module _ (ws ms la be : List ℕ) (r : ℕ) (x : Record) (a b : Field) (p : Type
 
 -- A list cell
 
-module _ (ws ms ls : List ℕ) (r : ℕ) (x : Record) (p : CellAsks ws ms ls r x) where
-  pub cell-row : RowAsks ws ms r x Element Rest Nil
+module _ (ws ms ls : List ℕ) (r : ℕ) (p : CellAsks ws ms ls r) where
+  pub cell-row : RowAsks ws ms r Element Rest Nil
   cell-row = record {
     above = p .above;
-    words = p .words;
     row = shape-at ws r CE (p .cell) Element Rest Nil (unfold shapes in unfold field in refl);
     room = p .room-marks;
     known = p .marks;
@@ -135,8 +134,8 @@ module _ (ws ms ls : List ℕ) (r : ℕ) (x : Record) (p : CellAsks ws ms ls r x
     cell-breaks t = record { answer = row-breaks ws r ms₁ k s t; marks = λ w. absurd (false-true w); lengths = λ w. absurd (false-true w) }
 
     module _ (t : k ≡ true) where
-      pub list-asks : ListAsks ws ls r x
-      list-asks = record { above = p .above; words = p .words; cell = p .cell; so = row-shaped ws r ms₁ k s t; room = p .room-lengths; known = p .lengths }
+      pub list-asks : ListAsks ws ls r
+      list-asks = record { above = p .above; cell = p .cell; so = row-shaped ws r ms₁ k s t; room = p .room-lengths; known = p .lengths }
 
       pub cell-says : (ls₁ : List ℕ) (y : Bool) → ListSays ws ls₁ r y → CellSays ws ms₁ ls₁ r y
       cell-says ls₁ y h = record {
@@ -166,10 +165,9 @@ module _ (ws ms ls la be : List ℕ) (r : ℕ) (p : RecordAsks ws ms ls la be r)
     at-tag : tag ws r ≡ k
     at-tag = sym (w .tag-is) ∙ e
 
-    pub row-asks : (a b c : Field) → getD shapes k (never, never, never) ≡ (field a, field b, field c) → RowAsks ws ms r x a b c
+    pub row-asks : (a b c : Field) → getD shapes k (never, never, never) ≡ (field a, field b, field c) → RowAsks ws ms r a b c
     row-asks a b c h = let m = p .room .marks in record {
       above = above;
-      words = w;
       row = shape-at ws r k at-tag a b c h;
       room = omega arith;
       known = p .passed .marks;
@@ -179,7 +177,7 @@ module _ (ws ms ls la be : List ℕ) (r : ℕ) (p : RecordAsks ws ms ls la be r)
     unfolding isType typeTag
     kind-is t h = rw at-tag h
 
-    pub type-row-asks : (a b : Field) → getD shapes k (never, never, never) ≡ (field a, field b, field Nil) → typeTag k ≡ true → TypeRowAsks ws ms la be r x a b
+    pub type-row-asks : (a b : Field) → getD shapes k (never, never, never) ≡ (field a, field b, field Nil) → typeTag k ≡ true → TypeRowAsks ws ms la be r a b
     type-row-asks a b h t = let l = p .room .last in let m = p .room .before in record {
       fields = row-asks a b Nil h;
       type = kind-is true t;
@@ -188,10 +186,9 @@ module _ (ws ms ls la be : List ℕ) (r : ℕ) (p : RecordAsks ws ms ls la be r)
       known = p .passed .chains;
     }
 
-    pub cell-asks : k ≡ CE → CellAsks ws ms ls r x
+    pub cell-asks : k ≡ CE → CellAsks ws ms ls r
     cell-asks c = let m = p .room .marks in let l = p .room .lengths in record {
       above = above;
-      words = w;
       cell = at-tag ∙ c;
       room-marks = omega arith;
       room-lengths = omega arith;

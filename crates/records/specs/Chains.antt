@@ -9,7 +9,6 @@ use Rattle.rules.specs.Lists.{both}
 use Rattle.rules.specs.Words.{tag, fieldA, fieldB, isType}
 use Rattle.rules.specs.Records.{new-type}
 use Rattle.table.specs.declared.Record.{Record}
-use Rattle.table.specs.Reading.{IsRecord}
 
 -- record j has the words of x
 unfoldable pub equals : List ℕ → ℕ → Record → Bool
@@ -26,10 +25,9 @@ pub record Chains (la be ws : List ℕ) (r : ℕ) : Type 0 where
   pub before : (j : ℕ) → j < r → isType ws j ≡ true → getD be j 0 ≡ latest ws (fieldB ws j) j
 
 -- record r is a type, and the chains below it are known
-pub record TypeAsks (ws la be : List ℕ) (r : ℕ) (x : Record) : Type 0 where
+pub record TypeAsks (ws la be : List ℕ) (r : ℕ) : Type 0 where
   pub inside : 4 * r + 3 < length ws
   pub few : r < 4096
-  pub words : IsRecord ws r x
   pub type : isType ws r ≡ true
   pub key : fieldB ws r ≤ r
   pub room-last : r < length la

@@ -1,5 +1,5 @@
 -- What the marks of lists and references mean.
-use Prim.Native.Nat.{ℕ, zero, suc, _+_, _*_, _<_, _≤_}
+use Prim.Native.Nat.{ℕ, zero, suc, _+_, _*_, _<_}
 use mathlib.Core.Path.{_≡_}
 use mathlib.Core.Bool.{Bool, true, false, not}
 use mathlib.Core.List.{List, [], _∷_, _++_}
@@ -8,8 +8,6 @@ use lib.Dec.{eqb, leb}
 use Rattle.rules.specs.Lists.{both, either, among}
 use Rattle.rules.specs.Words.{NONE, CE, tag, cells}
 use Rattle.rules.specs.Records.{shaped, listed, uses}
-use Rattle.table.specs.declared.Record.{Record}
-use Rattle.table.specs.Reading.{IsRecord}
 use Rattle.fields.specs.declared.Field.{Field}
 use Rattle.fields.specs.declared.Field.the-variants.{Nil, Any, Small, OfType, OfBase, OfConstant, OfHole, OfTerm, Types, Terms, Element, Rest}
 use Rattle.fields.specs.Kinds.{typeTag, termTag, Above}
@@ -42,9 +40,8 @@ pub record Lengths (ls ws : List ℕ) (r : ℕ) : Type 0 where
   pub marked : (c : ℕ) → c < r → tag ws c ≡ CE → getD ls c 0 ≡ length (cells 17 ws c)
 
 -- record r is a cell with fields as the table says, and the lengths below it are marked
-pub record ListAsks (ws ls : List ℕ) (r : ℕ) (x : Record) : Type 0 where
+pub record ListAsks (ws ls : List ℕ) (r : ℕ) : Type 0 where
   pub above : Above ws r
-  pub words : IsRecord ws r x
   pub cell : tag ws r ≡ CE
   pub so : shaped ws r ≡ true
   pub room : r < length ls

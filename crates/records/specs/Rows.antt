@@ -8,8 +8,6 @@ use Rattle.rules.specs.Lists.{both}
 use Rattle.rules.specs.Words.{CE, tag, isType}
 use Rattle.rules.specs.Records.{shape, fits, shaped, first-use, keeps}
 use Rattle.laws.specs.Sound.{Sound}
-use Rattle.table.specs.declared.Record.{Record}
-use Rattle.table.specs.Reading.{IsRecord}
 use Rattle.fields.specs.declared.Field.{Field}
 use Rattle.fields.specs.declared.Field.the-variants.{Nil}
 use Rattle.fields.specs.Kinds.{field, Above}
@@ -27,9 +25,8 @@ pub record FieldSays (ws ms ms₁ : List ℕ) (r : ℕ) (f : Field) (x : ℕ) (b
   pub next : (u : List ℕ) → Marked ms u → b ≡ true → Marked ms₁ (reference-of ws f x ++ u)
 
 -- the table's row of record r is a, b, c, and what the lower records refer to is marked
-pub record RowAsks (ws ms : List ℕ) (r : ℕ) (x : Record) (a b c : Field) : Type 0 where
+pub record RowAsks (ws ms : List ℕ) (r : ℕ) (a b c : Field) : Type 0 where
   pub above : Above ws r
-  pub words : IsRecord ws r x
   pub row : shape ws r ≡ (field a, field b, field c)
   pub room : r ≤ length ms
   pub known : Marked ms (used ws r)
@@ -40,8 +37,8 @@ pub record RowSays (ws ms : List ℕ) (r : ℕ) (k : Bool) : Type 0 where
   pub next : k ≡ true → Marked ms (used ws (r + 1))
 
 -- record r is a type
-pub record TypeRowAsks (ws ms la be : List ℕ) (r : ℕ) (x : Record) (a b : Field) : Type 0 where
-  pub fields : RowAsks ws ms r x a b Nil
+pub record TypeRowAsks (ws ms la be : List ℕ) (r : ℕ) (a b : Field) : Type 0 where
+  pub fields : RowAsks ws ms r a b Nil
   pub type : isType ws r ≡ true
   pub room-last : r < length la
   pub room-before : r < length be
@@ -53,9 +50,8 @@ pub record TypeRowSays (ws ms la be : List ℕ) (r : ℕ) (k : Bool) : Type 0 wh
   pub chains : k ≡ true → Chains la be ws (r + 1)
 
 -- record r is a list cell
-pub record CellAsks (ws ms ls : List ℕ) (r : ℕ) (x : Record) : Type 0 where
+pub record CellAsks (ws ms ls : List ℕ) (r : ℕ) : Type 0 where
   pub above : Above ws r
-  pub words : IsRecord ws r x
   pub cell : tag ws r ≡ CE
   pub room-marks : r ≤ length ms
   pub room-lengths : r < length ls

@@ -31,10 +31,11 @@ fn alike_tags(k: u32, j: u32) -> bool
 }
 
 // A cell begins a list that is not mixed and has at most 16 cells; its length is marked.
-fn listed(table: &[u32], lengths: &mut [u8], r: u32, x: Record) -> bool
-    requires { ⌜ ListAsks (now table) (now lengths) r x ⌝ }
+fn listed(table: &[u32], lengths: &mut [u8], r: u32) -> bool
+    requires { ⌜ ListAsks (now table) (now lengths) r ⌝ }
     ensures { λ b. ⌜ ListSays (now (table .entry)) (now (lengths .exit)) r b ⌝ }
 {
+    let x = read(table, r);
     let at = r as usize;
     if x.b == NONE {
         lengths[at] = 1;
@@ -72,10 +73,11 @@ fn equal(table: &[u32], j: u32, x: Record) -> bool
 
 // No earlier type record equals this one, which joins its chain. Equal types have equal b, so the types with this b are compared, from the latest
 // down: last[b] is one more than its number, before[j] one more than that of the one before j, 0 is the chain's end.
-fn new_type(table: &[u32], last: &mut [u16], before: &mut [u16], r: u32, x: Record) -> bool
-    requires { ⌜ TypeAsks (now table) (now last) (now before) r x ⌝ }
+fn new_type(table: &[u32], last: &mut [u16], before: &mut [u16], r: u32) -> bool
+    requires { ⌜ TypeAsks (now table) (now last) (now before) r ⌝ }
     ensures { λ b. ⌜ TypeSays (now (table .entry)) (now (last .exit)) (now (before .exit)) r b ⌝ }
 {
+    let x = read(table, r);
     let key = x.b as usize;
     let top = last[key];
     let mut j = top;
@@ -151,10 +153,11 @@ fn field_keeps(table: &[u32], marks: &mut [u8], r: u32, f: Field, x: u32) -> boo
 }
 
 // The fields a, b and c of a record, in order.
-fn row_keeps(table: &[u32], marks: &mut [u8], r: u32, x: Record, a: Field, b: Field, c: Field) -> bool
-    requires { ⌜ RowAsks (now table) (now marks) r x a b c ⌝ }
+fn row_keeps(table: &[u32], marks: &mut [u8], r: u32, a: Field, b: Field, c: Field) -> bool
+    requires { ⌜ RowAsks (now table) (now marks) r a b c ⌝ }
     ensures { λ k. ⌜ RowSays (now (table .entry)) (now (marks .exit)) r k ⌝ }
 {
+    let x = read(table, r);
     if !field_keeps(table, marks, r, a, x.a) {
         return false;
     }
@@ -165,51 +168,73 @@ fn row_keeps(table: &[u32], marks: &mut [u8], r: u32, x: Record, a: Field, b: Fi
 }
 
 // A type keeps the rules.
-fn type_keeps(table: &[u32], marks: &mut [u8], last: &mut [u16], before: &mut [u16], r: u32, x: Record, a: Field, b: Field) -> bool
-    requires { ⌜ TypeRowAsks (now table) (now marks) (now last) (now before) r x a b ⌝ }
+fn type_keeps(
+    table: &[u32],
+    marks: &mut [u8],
+    last: &mut [u16],
+    before: &mut [u16],
+    r: u32,
+    a: Field,
+    b: Field,
+) -> bool
+    requires { ⌜ TypeRowAsks (now table) (now marks) (now last) (now before) r a b ⌝ }
     ensures { λ k. ⌜ TypeRowSays (now (table .entry)) (now (marks .exit)) (now (last .exit)) (now (before .exit)) r k ⌝ }
 {
-    if !row_keeps(table, marks, r, x, a, b, Field::Nil) {
+    if !row_keeps(table, marks, r, a, b, Field::Nil) {
         return false;
     }
-    new_type(table, last, before, r, x)
+    new_type(table, last, before, r)
 }
 
 // A list cell keeps the rules.
-fn cell_keeps(table: &[u32], marks: &mut [u8], lengths: &mut [u8], r: u32, x: Record) -> bool
-    requires { ⌜ CellAsks (now table) (now marks) (now lengths) r x ⌝ }
+fn cell_keeps(table: &[u32], marks: &mut [u8], lengths: &mut [u8], r: u32) -> bool
+    requires { ⌜ CellAsks (now table) (now marks) (now lengths) r ⌝ }
     ensures { λ k. ⌜ CellSays (now (table .entry)) (now (marks .exit)) (now (lengths .exit)) r k ⌝ }
 {
-    if !row_keeps(table, marks, r, x, Field::Element, Field::Rest, Field::Nil) {
+    if !row_keeps(table, marks, r, Field::Element, Field::Rest, Field::Nil) {
         return false;
     }
-    listed(table, lengths, r, x)
+    listed(table, lengths, r)
 }
 
-// Record r keeps the rules: the rows of the records section's table, by tag. An unknown tag breaks them.
-fn record_keeps(table: &[u32], marks: &mut [u8], lengths: &mut [u8], last: &mut [u16], before: &mut [u16], r: u32) -> bool
+// A record keeps the rules; the arms are the records section's table, and an unknown tag has no row.
+fn record_keeps(
+    table: &[u32],
+    marks: &mut [u8],
+    lengths: &mut [u8],
+    last: &mut [u16],
+    before: &mut [u16],
+    r: u32,
+) -> bool
     requires { ⌜ RecordAsks (now table) (now marks) (now lengths) (now last) (now before) r ⌝ }
     ensures { λ b. ⌜ RecordSays (now (table .entry)) (now (marks .exit)) (now (lengths .exit)) (now (last .exit)) (now (before .exit)) r b ⌝ }
 {
     let x = read(table, r);
     let k = x.tag;
     match k {
-        1 => type_keeps(table, marks, last, before, r, x, Field::Any, Field::Nil),
-        2 => type_keeps(table, marks, last, before, r, x, Field::OfType, Field::OfType),
-        3 => row_keeps(table, marks, r, x, Field::OfType, Field::Nil, Field::Nil),
-        4 => row_keeps(table, marks, r, x, Field::Types, Field::OfBase, Field::Nil),
-        5 => cell_keeps(table, marks, lengths, r, x),
-        6 => row_keeps(table, marks, r, x, Field::OfTerm, Field::Nil, Field::Nil),
-        7 => row_keeps(table, marks, r, x, Field::OfConstant, Field::Terms, Field::Nil),
-        8 => row_keeps(table, marks, r, x, Field::Small, Field::Terms, Field::Nil),
-        9 => row_keeps(table, marks, r, x, Field::OfHole, Field::Terms, Field::Nil),
-        10 => row_keeps(table, marks, r, x, Field::OfTerm, Field::OfTerm, Field::OfType),
+        1 => type_keeps(table, marks, last, before, r, Field::Any, Field::Nil),
+        2 => type_keeps(table, marks, last, before, r, Field::OfType, Field::OfType),
+        3 => row_keeps(table, marks, r, Field::OfType, Field::Nil, Field::Nil),
+        4 => row_keeps(table, marks, r, Field::Types, Field::OfBase, Field::Nil),
+        5 => cell_keeps(table, marks, lengths, r),
+        6 => row_keeps(table, marks, r, Field::OfTerm, Field::Nil, Field::Nil),
+        7 => row_keeps(table, marks, r, Field::OfConstant, Field::Terms, Field::Nil),
+        8 => row_keeps(table, marks, r, Field::Small, Field::Terms, Field::Nil),
+        9 => row_keeps(table, marks, r, Field::OfHole, Field::Terms, Field::Nil),
+        10 => row_keeps(table, marks, r, Field::OfTerm, Field::OfTerm, Field::OfType),
         _ => false,
     }
 }
 
 // The lowest of the first n records that breaks a rule, with marks for each of them.
-fn search(table: &[u32], marks: &mut [u8], lengths: &mut [u8], last: &mut [u16], before: &mut [u16], n: u32) -> Found
+fn search(
+    table: &[u32],
+    marks: &mut [u8],
+    lengths: &mut [u8],
+    last: &mut [u16],
+    before: &mut [u16],
+    n: u32,
+) -> Found
     requires { ⌜ SearchAsks (now table) (now marks) (now lengths) (now last) (now before) n ⌝ }
     ensures { λ r. ⌜ r ≡ broken (now (table .entry)) n ⌝ }
 {

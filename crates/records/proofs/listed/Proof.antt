@@ -10,46 +10,50 @@ use Rattle.records.proofs.Lengths.{element-low, rest-low, next-low, lis
 use Rattle.records.proofs.listed.Statement.{statement}
 use Rattle.records.proofs.listed.Tie as tie
 
+read-requires : tie.Need-read-requires
+read-requires c κs = c .before .before .pre .above .inside
+
 slice-write-lengths : tie.Need-slice-write-lengths
-slice-write-lengths c = c .before .before .before .before .pre .room
+slice-write-lengths c = c .before .before .before .before .before .pre .room
 
 returns : tie.Need-returns
-returns c = list-one _ _ (c .before .before .before .before .pre .above) (c .before .before .before .before .pre .so) (c .before .before .before .before .pre .cell) _ (c .before .before .before .before .pre .room) (sym (c .before .before .before .before .pre .words .b-is) ∙ c .if1 .taken) (c .before .before .before .before .pre .known)
-
-read-requires : tie.Need-read-requires
-read-requires c κs = let low = rest-low _ _ (c .before .before .before .before .pre .above) (c .before .before .before .before .pre .so) (c .before .before .before .before .pre .cell) (λ q. c .if1 .left (c .before .before .before .before .pre .words .b-is ∙ q)) .0 in let inside = c .before .before .before .before .pre .above .inside in let e = c .before .before .before .before .pre .words .b-is in omega arith
+returns c = list-one _ _ (c .before .before .before .before .before .pre .above) (c .before .before .before .before .before .pre .so) (c .before .before .before .before .before .pre .cell) _ (c .before .before .before .before .before .pre .room) (sym (c .before .before .read .ensures .b-is) ∙ c .if1 .taken) (c .before .before .before .before .before .pre .known)
 
 read-requires-2 : tie.Need-read-requires-2
-read-requires-2 c κs = let low = element-low _ _ (c .before .before .before .before .before .pre .above) (c .before .before .before .before .before .pre .so) (c .before .before .before .before .before .pre .cell) in let inside = c .before .before .before .before .before .pre .above .inside in let e = c .before .before .before .before .before .pre .words .a-is in omega arith
+read-requires-2 c κs = let low = rest-low _ _ (c .before .before .before .before .before .pre .above) (c .before .before .before .before .before .pre .so) (c .before .before .before .before .before .pre .cell) (λ q. c .if1 .left (c .before .before .read .ensures .b-is ∙ q)) .0 in let inside = c .before .before .before .before .before .pre .above .inside in let e = c .before .before .read .ensures .b-is in omega arith
 
 read-requires-3 : tie.Need-read-requires-3
-read-requires-3 c κs = rw (c .before .read .ensures .a-is, c .before .before .before .before .before .before .pre .words .b-is) (let low = rest-low _ _ (c .before .before .before .before .before .before .pre .above) (c .before .before .before .before .before .before .pre .so) (c .before .before .before .before .before .before .pre .cell) (λ q. c .before .before .if1 .left (c .before .before .before .before .before .before .pre .words .b-is ∙ q)) .0 in let lower = next-low _ _ (c .before .before .before .before .before .before .pre .above) (c .before .before .before .before .before .before .pre .so) (c .before .before .before .before .before .before .pre .cell) (λ q. c .before .before .if1 .left (c .before .before .before .before .before .before .pre .words .b-is ∙ q)) in let inside = c .before .before .before .before .before .before .pre .above .inside in omega arith)
+read-requires-3 c κs = let low = element-low _ _ (c .before .before .before .before .before .before .pre .above) (c .before .before .before .before .before .before .pre .so) (c .before .before .before .before .before .before .pre .cell) in let inside = c .before .before .before .before .before .before .pre .above .inside in let e = c .before .before .before .read .ensures .a-is in omega arith
+
+read-requires-4 : tie.Need-read-requires-4
+read-requires-4 c κs = rw (c .before .read2 .ensures .a-is, c .before .before .before .before .read .ensures .b-is) (let low = rest-low _ _ (c .before .before .before .before .before .before .before .pre .above) (c .before .before .before .before .before .before .before .pre .so) (c .before .before .before .before .before .before .before .pre .cell) (λ q. c .before .before .if1 .left (c .before .before .before .before .read .ensures .b-is ∙ q)) .0 in let lower = next-low _ _ (c .before .before .before .before .before .before .before .pre .above) (c .before .before .before .before .before .before .before .pre .so) (c .before .before .before .before .before .before .before .pre .cell) (λ q. c .before .before .if1 .left (c .before .before .before .before .read .ensures .b-is ∙ q)) in let inside = c .before .before .before .before .before .before .before .pre .above .inside in omega arith)
 
 returns-2 : tie.Need-returns-2
-returns-2 c = list-mixed _ _ (c .before .before .before .before .before .before .before .before .before .pre .above) (c .before .before .before .before .before .before .before .before .before .pre .so) (c .before .before .before .before .before .before .before .before .before .pre .cell) (λ q. c .before .before .before .before .before .if1 .left (c .before .before .before .before .before .before .before .before .before .pre .words .b-is ∙ q)) _ _ _ (c .before .alike-tags .ensures) (c .before .before .before .read2 .ensures .tag-is ∙ ap (tag (now (c .before .before .before .before .before .before .before .before .before .args .table))) (c .before .before .before .before .before .before .before .before .before .pre .words .a-is)) (c .before .before .read3 .ensures .tag-is ∙ ap (tag (now (c .before .before .before .before .before .before .before .before .before .args .table))) (c .before .before .before .before .read .ensures .a-is ∙ ap (fieldA (now (c .before .before .before .before .before .before .before .before .before .args .table))) (c .before .before .before .before .before .before .before .before .before .pre .words .b-is))) _ (not-true _ (c .if2 .taken))
+returns-2 c = list-mixed _ _ (c .before .before .before .before .before .before .before .before .before .before .pre .above) (c .before .before .before .before .before .before .before .before .before .before .pre .so) (c .before .before .before .before .before .before .before .before .before .before .pre .cell) (λ q. c .before .before .before .before .before .if1 .left (c .before .before .before .before .before .before .before .read .ensures .b-is ∙ q)) _ _ _ (c .before .alike-tags .ensures) (c .before .before .before .read3 .ensures .tag-is ∙ ap (tag (now (c .before .before .before .before .before .before .before .before .before .before .args .table))) (c .before .before .before .before .before .before .before .read .ensures .a-is)) (c .before .before .read4 .ensures .tag-is ∙ ap (tag (now (c .before .before .before .before .before .before .before .before .before .before .args .table))) (c .before .before .before .before .read2 .ensures .a-is ∙ ap (fieldA (now (c .before .before .before .before .before .before .before .before .before .before .args .table))) (c .before .before .before .before .before .before .before .read .ensures .b-is))) _ (not-true _ (c .if2 .taken))
 
 slice-read-count : tie.Need-slice-read-count
-slice-read-count c = let low = rest-low _ _ (c .before .before .before .before .before .before .before .before .before .before .before .pre .above) (c .before .before .before .before .before .before .before .before .before .before .before .pre .so) (c .before .before .before .before .before .before .before .before .before .before .before .pre .cell) (λ q. c .before .before .before .before .before .before .before .if1 .left (c .before .before .before .before .before .before .before .before .before .before .before .pre .words .b-is ∙ q)) .0 in let room = c .before .before .before .before .before .before .before .before .before .before .before .pre .room in let e = c .before .before .before .before .before .before .before .before .before .before .before .pre .words .b-is in omega arith
+slice-read-count c = let low = rest-low _ _ (c .before .before .before .before .before .before .before .before .before .before .before .before .pre .above) (c .before .before .before .before .before .before .before .before .before .before .before .before .pre .so) (c .before .before .before .before .before .before .before .before .before .before .before .before .pre .cell) (λ q. c .before .before .before .before .before .before .before .if1 .left (c .before .before .before .before .before .before .before .before .before .read .ensures .b-is ∙ q)) .0 in let room = c .before .before .before .before .before .before .before .before .before .before .before .before .pre .room in let e = c .before .before .before .before .before .before .before .before .before .read .ensures .b-is in omega arith
 
 slice-write-lengths-2 : tie.Need-slice-write-lengths-2
-slice-write-lengths-2 c = c .before .before .before .before .before .before .before .before .before .before .before .before .pre .room
+slice-write-lengths-2 c = c .before .before .before .before .before .before .before .before .before .before .before .before .before .pre .room
 
 returns-3 : tie.Need-returns-3
-returns-3 c = list-more _ _ (c .before .before .before .before .before .before .before .before .before .before .before .before .pre .above) (c .before .before .before .before .before .before .before .before .before .before .before .before .pre .so) (c .before .before .before .before .before .before .before .before .before .before .before .before .pre .cell) (λ q. c .before .before .before .before .before .before .before .before .if1 .left (c .before .before .before .before .before .before .before .before .before .before .before .before .pre .words .b-is ∙ q)) _ _ _ (c .before .before .before .before .alike-tags .ensures) (c .before .before .before .before .before .before .read2 .ensures .tag-is ∙ ap (tag (now (c .before .before .before .before .before .before .before .before .before .before .before .before .args .table))) (c .before .before .before .before .before .before .before .before .before .before .before .before .pre .words .a-is)) (c .before .before .before .before .before .read3 .ensures .tag-is ∙ ap (tag (now (c .before .before .before .before .before .before .before .before .before .before .before .before .args .table))) (c .before .before .before .before .before .before .before .read .ensures .a-is ∙ ap (fieldA (now (c .before .before .before .before .before .before .before .before .before .before .before .before .args .table))) (c .before .before .before .before .before .before .before .before .before .before .before .before .pre .words .b-is))) _ (c .before .before .before .before .before .before .before .before .before .before .before .before .pre .room) (c .before .before .before .before .before .before .before .before .before .before .before .before .pre .known) (not-false _ (c .before .before .before .if2 .left)) _ (ap (λ i. getD (now (c .before .before .before .before .before .before .before .before .before .before .before .before .args .lengths)) i 0) (c .before .before .before .before .before .before .before .before .before .before .before .before .pre .words .b-is)) (c .if3 .taken)
+returns-3 c = list-more _ _ (c .before .before .before .before .before .before .before .before .before .before .before .before .before .pre .above) (c .before .before .before .before .before .before .before .before .before .before .before .before .before .pre .so) (c .before .before .before .before .before .before .before .before .before .before .before .before .before .pre .cell) (λ q. c .before .before .before .before .before .before .before .before .if1 .left (c .before .before .before .before .before .before .before .before .before .before .read .ensures .b-is ∙ q)) _ _ _ (c .before .before .before .before .alike-tags .ensures) (c .before .before .before .before .before .before .read3 .ensures .tag-is ∙ ap (tag (now (c .before .before .before .before .before .before .before .before .before .before .before .before .before .args .table))) (c .before .before .before .before .before .before .before .before .before .before .read .ensures .a-is)) (c .before .before .before .before .before .read4 .ensures .tag-is ∙ ap (tag (now (c .before .before .before .before .before .before .before .before .before .before .before .before .before .args .table))) (c .before .before .before .before .before .before .before .read2 .ensures .a-is ∙ ap (fieldA (now (c .before .before .before .before .before .before .before .before .before .before .before .before .before .args .table))) (c .before .before .before .before .before .before .before .before .before .before .read .ensures .b-is))) _ (c .before .before .before .before .before .before .before .before .before .before .before .before .before .pre .room) (c .before .before .before .before .before .before .before .before .before .before .before .before .before .pre .known) (not-false _ (c .before .before .before .if2 .left)) _ (ap (λ i. getD (now (c .before .before .before .before .before .before .before .before .before .before .before .before .before .args .lengths)) i 0) (c .before .before .before .before .before .before .before .before .before .before .read .ensures .b-is)) (c .if3 .taken)
 
 returns-4 : tie.Need-returns-4
-returns-4 c = list-long _ _ (c .before .before .before .before .before .before .before .before .before .before .before .before .pre .above) (c .before .before .before .before .before .before .before .before .before .before .before .before .pre .so) (c .before .before .before .before .before .before .before .before .before .before .before .before .pre .cell) (λ q. c .before .before .before .before .before .before .before .before .if1 .left (c .before .before .before .before .before .before .before .before .before .before .before .before .pre .words .b-is ∙ q)) _ _ _ (c .before .before .before .before .alike-tags .ensures) (c .before .before .before .before .before .before .read2 .ensures .tag-is ∙ ap (tag (now (c .before .before .before .before .before .before .before .before .before .before .before .before .args .table))) (c .before .before .before .before .before .before .before .before .before .before .before .before .pre .words .a-is)) (c .before .before .before .before .before .read3 .ensures .tag-is ∙ ap (tag (now (c .before .before .before .before .before .before .before .before .before .before .before .before .args .table))) (c .before .before .before .before .before .before .before .read .ensures .a-is ∙ ap (fieldA (now (c .before .before .before .before .before .before .before .before .before .before .before .before .args .table))) (c .before .before .before .before .before .before .before .before .before .before .before .before .pre .words .b-is))) _ (c .before .before .before .before .before .before .before .before .before .before .before .before .pre .room) (c .before .before .before .before .before .before .before .before .before .before .before .before .pre .known) (not-false _ (c .before .before .before .if2 .left)) _ (ap (λ i. getD (now (c .before .before .before .before .before .before .before .before .before .before .before .before .args .lengths)) i 0) (c .before .before .before .before .before .before .before .before .before .before .before .before .pre .words .b-is)) (c .if3 .left)
+returns-4 c = list-long _ _ (c .before .before .before .before .before .before .before .before .before .before .before .before .before .pre .above) (c .before .before .before .before .before .before .before .before .before .before .before .before .before .pre .so) (c .before .before .before .before .before .before .before .before .before .before .before .before .before .pre .cell) (λ q. c .before .before .before .before .before .before .before .before .if1 .left (c .before .before .before .before .before .before .before .before .before .before .read .ensures .b-is ∙ q)) _ _ _ (c .before .before .before .before .alike-tags .ensures) (c .before .before .before .before .before .before .read3 .ensures .tag-is ∙ ap (tag (now (c .before .before .before .before .before .before .before .before .before .before .before .before .before .args .table))) (c .before .before .before .before .before .before .before .before .before .before .read .ensures .a-is)) (c .before .before .before .before .before .read4 .ensures .tag-is ∙ ap (tag (now (c .before .before .before .before .before .before .before .before .before .before .before .before .before .args .table))) (c .before .before .before .before .before .before .before .read2 .ensures .a-is ∙ ap (fieldA (now (c .before .before .before .before .before .before .before .before .before .before .before .before .before .args .table))) (c .before .before .before .before .before .before .before .before .before .before .read .ensures .b-is))) _ (c .before .before .before .before .before .before .before .before .before .before .before .before .before .pre .room) (c .before .before .before .before .before .before .before .before .before .before .before .before .before .pre .known) (not-false _ (c .before .before .before .if2 .left)) _ (ap (λ i. getD (now (c .before .before .before .before .before .before .before .before .before .before .before .before .before .args .lengths)) i 0) (c .before .before .before .before .before .before .before .before .before .before .read .ensures .b-is)) (c .if3 .left)
 
 pub listed-spec : {M : Type 1} → statement M
 listed-spec =
     tie.close
     (tie.spec
+    read-requires
     slice-write-lengths
     (λ c. search needs)
     returns
-    read-requires
     read-requires-2
     read-requires-3
+    read-requires-4
     (λ c κs. search needs)
     returns-2
     (λ c. search needs)

@@ -1,8 +1,7 @@
 -- `records::search` meets its contract.
 use Prim.Native.Nat.{_-_}
-use mathlib.Core.Path.{sym, _∙_}
+use mathlib.Core.Path.{_∙_}
 use native.Mathlib.Omega.{arith}
-use borrow.Author.Needs.{needs}
 use borrow.Author.Tests.{not-true, not-false}
 use Rattle.records.proofs.Passing.{Going, going-start, going-asks, going-stop, going-on, going-end}
 use Rattle.records.proofs.search.Statement.{statement}
