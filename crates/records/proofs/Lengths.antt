@@ -147,7 +147,7 @@ module _ (ws : List ℕ) (r : ℕ) where
         unfolding both
         list-mixed ls t = record { answer = sym (alike-is ∙ rw t); next = λ q. absurd (false-true q) }
 
-        module _ (ls : List ℕ) (room : r < length ls) (q : Lengths ls ws r) (t : x ≡ true) (c : ℕ) (ec : c ≡ getD ls (fieldB ws r) 0) where
+        module _ (ls : List ℕ) (q : Lengths ls ws r) (t : x ≡ true) (c : ℕ) (ec : c ≡ getD ls (fieldB ws r) 0) where
           count-is : c ≡ length (cells 17 ws (fieldB ws r))
           count-is = let l = rest-low z in ec ∙ q .marked (fieldB ws r) (l .0) (l .1)
 
@@ -155,9 +155,9 @@ module _ (ws : List ℕ) (r : ℕ) where
           unfolding both
           list-long h = record { answer = sym (alike-is ∙ rw (t, ← count-is, lt-leb (suc c) 16 (omega arith))); next = λ w. absurd (false-true w) }
 
-          pub list-more : c < 16 → ListSays ws (set ls r (c + 1)) r true
+          pub list-more : r < length ls → c < 16 → ListSays ws (set ls r (c + 1)) r true
           unfolding both
-          list-more h =
+          list-more room h =
               let n = count-is in
               let m = length-more in
               record { answer = sym (alike-is ∙ rw (t, ← count-is, le-leb (suc c) 16 (omega arith))); next = λ _. lengths-next ls (c + 1) room (omega arith) q }

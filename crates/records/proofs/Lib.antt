@@ -4,4 +4,5 @@ pub mod Earlier  -- types are new
 pub mod Fresh  -- references one after the other
 pub mod Uses  -- references are the first
 pub mod Fields  -- the fields of a record
-pub mod Passing  -- a record keeps the rules, and the next is looked at
+pub mod Keeping  -- a record keeps the rules
+pub mod Passing  -- the search

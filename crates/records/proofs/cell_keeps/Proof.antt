@@ -1,6 +1,6 @@
 -- `records::cell_keeps` meets its contract.
 use borrow.Author.Tests.{not-true, not-false}
-use Rattle.records.proofs.Passing.{cell-row, cell-breaks, list-asks, cell-says}
+use Rattle.records.proofs.Keeping.{cell-row, cell-breaks, list-asks, cell-says}
 use Rattle.records.proofs.cell_keeps.Statement.{statement}
 use Rattle.records.proofs.cell_keeps.Tie as tie
 

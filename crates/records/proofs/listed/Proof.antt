@@ -17,31 +17,78 @@ slice-write-lengths : tie.Need-slice-write-lengths
 slice-write-lengths c = c .before .before .before .before .before .pre .room
 
 returns : tie.Need-returns
-returns c = list-one _ _ (c .before .before .before .before .before .pre .above) (c .before .before .before .before .before .pre .so) (c .before .before .before .before .before .pre .cell) _ (c .before .before .before .before .before .pre .room) (sym (c .before .before .read .ensures .b-is) ∙ c .if1 .taken) (c .before .before .before .before .before .pre .known)
+returns c =
+    let p = c .before .before .before .before .before .pre in
+    let x = c .before .before .read .ensures in
+    list-one _ _ (p .above) (p .so) (p .cell) _ (p .room) (sym (x .b-is) ∙ c .if1 .taken) (p .known)
 
 read-requires-2 : tie.Need-read-requires-2
-read-requires-2 c κs = let low = rest-low _ _ (c .before .before .before .before .before .pre .above) (c .before .before .before .before .before .pre .so) (c .before .before .before .before .before .pre .cell) (λ q. c .if1 .left (c .before .before .read .ensures .b-is ∙ q)) .0 in let inside = c .before .before .before .before .before .pre .above .inside in let e = c .before .before .read .ensures .b-is in omega arith
+read-requires-2 c κs =
+    let p = c .before .before .before .before .before .pre in
+    let x = c .before .before .read .ensures in
+    let low = rest-low _ _ (p .above) (p .so) (p .cell) (λ q. c .if1 .left (x .b-is ∙ q)) .0 in
+    let inside = p .above .inside in
+    let e = x .b-is in
+    omega arith
 
 read-requires-3 : tie.Need-read-requires-3
-read-requires-3 c κs = let low = element-low _ _ (c .before .before .before .before .before .before .pre .above) (c .before .before .before .before .before .before .pre .so) (c .before .before .before .before .before .before .pre .cell) in let inside = c .before .before .before .before .before .before .pre .above .inside in let e = c .before .before .before .read .ensures .a-is in omega arith
+read-requires-3 c κs =
+    let p = c .before .before .before .before .before .before .pre in
+    let x = c .before .before .before .read .ensures in
+    let low = element-low _ _ (p .above) (p .so) (p .cell) in
+    let inside = p .above .inside in
+    let e = x .a-is in
+    omega arith
 
 read-requires-4 : tie.Need-read-requires-4
-read-requires-4 c κs = rw (c .before .read2 .ensures .a-is, c .before .before .before .before .read .ensures .b-is) (let low = rest-low _ _ (c .before .before .before .before .before .before .before .pre .above) (c .before .before .before .before .before .before .before .pre .so) (c .before .before .before .before .before .before .before .pre .cell) (λ q. c .before .before .if1 .left (c .before .before .before .before .read .ensures .b-is ∙ q)) .0 in let lower = next-low _ _ (c .before .before .before .before .before .before .before .pre .above) (c .before .before .before .before .before .before .before .pre .so) (c .before .before .before .before .before .before .before .pre .cell) (λ q. c .before .before .if1 .left (c .before .before .before .before .read .ensures .b-is ∙ q)) in let inside = c .before .before .before .before .before .before .before .pre .above .inside in omega arith)
+read-requires-4 c κs =
+    let p = c .before .before .before .before .before .before .before .pre in
+    let x = c .before .before .before .before .read .ensures in
+    let low = rest-low _ _ (p .above) (p .so) (p .cell) (λ q. c .before .before .if1 .left (x .b-is ∙ q)) .0 in
+    let lower = next-low _ _ (p .above) (p .so) (p .cell) (λ q. c .before .before .if1 .left (x .b-is ∙ q)) in
+    let inside = p .above .inside in
+    rw (c .before .read2 .ensures .a-is, x .b-is) (omega arith)
 
 returns-2 : tie.Need-returns-2
-returns-2 c = list-mixed _ _ (c .before .before .before .before .before .before .before .before .before .before .pre .above) (c .before .before .before .before .before .before .before .before .before .before .pre .so) (c .before .before .before .before .before .before .before .before .before .before .pre .cell) (λ q. c .before .before .before .before .before .if1 .left (c .before .before .before .before .before .before .before .read .ensures .b-is ∙ q)) _ _ _ (c .before .alike-tags .ensures) (c .before .before .before .read3 .ensures .tag-is ∙ ap (tag (now (c .before .before .before .before .before .before .before .before .before .before .args .table))) (c .before .before .before .before .before .before .before .read .ensures .a-is)) (c .before .before .read4 .ensures .tag-is ∙ ap (tag (now (c .before .before .before .before .before .before .before .before .before .before .args .table))) (c .before .before .before .before .read2 .ensures .a-is ∙ ap (fieldA (now (c .before .before .before .before .before .before .before .before .before .before .args .table))) (c .before .before .before .before .before .before .before .read .ensures .b-is))) _ (not-true _ (c .if2 .taken))
+returns-2 c =
+    let p = c .before .before .before .before .before .before .before .before .before .before .pre in
+    let x = c .before .before .before .before .before .before .before .read .ensures in
+    let ws = now (c .before .before .before .before .before .before .before .before .before .before .args .table) in
+    let here = c .before .before .before .read3 .ensures .tag-is ∙ ap (tag ws) (x .a-is) in
+    let next = c .before .before .read4 .ensures .tag-is ∙ ap (tag ws) (c .before .before .before .before .read2 .ensures .a-is ∙ ap (fieldA ws) (x .b-is)) in
+    list-mixed _ _ (p .above) (p .so) (p .cell) (λ q. c .before .before .before .before .before .if1 .left (x .b-is ∙ q)) _ _ _ (c .before .alike-tags .ensures) here next _ (not-true _ (c .if2 .taken))
 
 slice-read-count : tie.Need-slice-read-count
-slice-read-count c = let low = rest-low _ _ (c .before .before .before .before .before .before .before .before .before .before .before .before .pre .above) (c .before .before .before .before .before .before .before .before .before .before .before .before .pre .so) (c .before .before .before .before .before .before .before .before .before .before .before .before .pre .cell) (λ q. c .before .before .before .before .before .before .before .if1 .left (c .before .before .before .before .before .before .before .before .before .read .ensures .b-is ∙ q)) .0 in let room = c .before .before .before .before .before .before .before .before .before .before .before .before .pre .room in let e = c .before .before .before .before .before .before .before .before .before .read .ensures .b-is in omega arith
+slice-read-count c =
+    let p = c .before .before .before .before .before .before .before .before .before .before .before .before .pre in
+    let x = c .before .before .before .before .before .before .before .before .before .read .ensures in
+    let low = rest-low _ _ (p .above) (p .so) (p .cell) (λ q. c .before .before .before .before .before .before .before .if1 .left (x .b-is ∙ q)) .0 in
+    let room = p .room in
+    let e = x .b-is in
+    omega arith
 
 slice-write-lengths-2 : tie.Need-slice-write-lengths-2
 slice-write-lengths-2 c = c .before .before .before .before .before .before .before .before .before .before .before .before .before .pre .room
 
 returns-3 : tie.Need-returns-3
-returns-3 c = list-more _ _ (c .before .before .before .before .before .before .before .before .before .before .before .before .before .pre .above) (c .before .before .before .before .before .before .before .before .before .before .before .before .before .pre .so) (c .before .before .before .before .before .before .before .before .before .before .before .before .before .pre .cell) (λ q. c .before .before .before .before .before .before .before .before .if1 .left (c .before .before .before .before .before .before .before .before .before .before .read .ensures .b-is ∙ q)) _ _ _ (c .before .before .before .before .alike-tags .ensures) (c .before .before .before .before .before .before .read3 .ensures .tag-is ∙ ap (tag (now (c .before .before .before .before .before .before .before .before .before .before .before .before .before .args .table))) (c .before .before .before .before .before .before .before .before .before .before .read .ensures .a-is)) (c .before .before .before .before .before .read4 .ensures .tag-is ∙ ap (tag (now (c .before .before .before .before .before .before .before .before .before .before .before .before .before .args .table))) (c .before .before .before .before .before .before .before .read2 .ensures .a-is ∙ ap (fieldA (now (c .before .before .before .before .before .before .before .before .before .before .before .before .before .args .table))) (c .before .before .before .before .before .before .before .before .before .before .read .ensures .b-is))) _ (c .before .before .before .before .before .before .before .before .before .before .before .before .before .pre .room) (c .before .before .before .before .before .before .before .before .before .before .before .before .before .pre .known) (not-false _ (c .before .before .before .if2 .left)) _ (ap (λ i. getD (now (c .before .before .before .before .before .before .before .before .before .before .before .before .before .args .lengths)) i 0) (c .before .before .before .before .before .before .before .before .before .before .read .ensures .b-is)) (c .if3 .taken)
+returns-3 c =
+    let p = c .before .before .before .before .before .before .before .before .before .before .before .before .before .pre in
+    let x = c .before .before .before .before .before .before .before .before .before .before .read .ensures in
+    let ws = now (c .before .before .before .before .before .before .before .before .before .before .before .before .before .args .table) in
+    let here = c .before .before .before .before .before .before .read3 .ensures .tag-is ∙ ap (tag ws) (x .a-is) in
+    let next = c .before .before .before .before .before .read4 .ensures .tag-is ∙ ap (tag ws) (c .before .before .before .before .before .before .before .read2 .ensures .a-is ∙ ap (fieldA ws) (x .b-is)) in
+    let count = ap (λ i. getD (now (c .before .before .before .before .before .before .before .before .before .before .before .before .before .args .lengths)) i 0) (x .b-is) in
+    list-more _ _ (p .above) (p .so) (p .cell) (λ q. c .before .before .before .before .before .before .before .before .if1 .left (x .b-is ∙ q)) _ _ _ (c .before .before .before .before .alike-tags .ensures) here next _ (p .known) (not-false _ (c .before .before .before .if2 .left)) _ count (p .room) (c .if3 .taken)
 
 returns-4 : tie.Need-returns-4
-returns-4 c = list-long _ _ (c .before .before .before .before .before .before .before .before .before .before .before .before .before .pre .above) (c .before .before .before .before .before .before .before .before .before .before .before .before .before .pre .so) (c .before .before .before .before .before .before .before .before .before .before .before .before .before .pre .cell) (λ q. c .before .before .before .before .before .before .before .before .if1 .left (c .before .before .before .before .before .before .before .before .before .before .read .ensures .b-is ∙ q)) _ _ _ (c .before .before .before .before .alike-tags .ensures) (c .before .before .before .before .before .before .read3 .ensures .tag-is ∙ ap (tag (now (c .before .before .before .before .before .before .before .before .before .before .before .before .before .args .table))) (c .before .before .before .before .before .before .before .before .before .before .read .ensures .a-is)) (c .before .before .before .before .before .read4 .ensures .tag-is ∙ ap (tag (now (c .before .before .before .before .before .before .before .before .before .before .before .before .before .args .table))) (c .before .before .before .before .before .before .before .read2 .ensures .a-is ∙ ap (fieldA (now (c .before .before .before .before .before .before .before .before .before .before .before .before .before .args .table))) (c .before .before .before .before .before .before .before .before .before .before .read .ensures .b-is))) _ (c .before .before .before .before .before .before .before .before .before .before .before .before .before .pre .room) (c .before .before .before .before .before .before .before .before .before .before .before .before .before .pre .known) (not-false _ (c .before .before .before .if2 .left)) _ (ap (λ i. getD (now (c .before .before .before .before .before .before .before .before .before .before .before .before .before .args .lengths)) i 0) (c .before .before .before .before .before .before .before .before .before .before .read .ensures .b-is)) (c .if3 .left)
+returns-4 c =
+    let p = c .before .before .before .before .before .before .before .before .before .before .before .before .before .pre in
+    let x = c .before .before .before .before .before .before .before .before .before .before .read .ensures in
+    let ws = now (c .before .before .before .before .before .before .before .before .before .before .before .before .before .args .table) in
+    let here = c .before .before .before .before .before .before .read3 .ensures .tag-is ∙ ap (tag ws) (x .a-is) in
+    let next = c .before .before .before .before .before .read4 .ensures .tag-is ∙ ap (tag ws) (c .before .before .before .before .before .before .before .read2 .ensures .a-is ∙ ap (fieldA ws) (x .b-is)) in
+    let count = ap (λ i. getD (now (c .before .before .before .before .before .before .before .before .before .before .before .before .before .args .lengths)) i 0) (x .b-is) in
+    list-long _ _ (p .above) (p .so) (p .cell) (λ q. c .before .before .before .before .before .before .before .before .if1 .left (x .b-is ∙ q)) _ _ _ (c .before .before .before .before .alike-tags .ensures) here next _ (p .known) (not-false _ (c .before .before .before .if2 .left)) _ count (c .if3 .left)
 
 pub listed-spec : {M : Type 1} → statement M
 listed-spec =

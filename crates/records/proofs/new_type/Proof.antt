@@ -16,7 +16,11 @@ read-requires : tie.Need-read-requires Inv-loop μ-loop
 read-requires c κs = c .before .before .before .pre .inside
 
 mul-top : tie.Need-mul-top Inv-loop μ-loop
-mul-top c = let key = c .before .before .before .before .before .pre .key in let few = c .before .before .before .before .before .pre .few in let e = c .before .read .ensures .b-is in omega arith
+mul-top c =
+    let key = c .before .before .before .before .before .pre .key in
+    let few = c .before .before .before .before .before .pre .few in
+    let e = c .before .read .ensures .b-is in
+    omega arith
 
 slice-read-top : tie.Need-slice-read-top Inv-loop μ-loop
 slice-read-top c = key-low _ _ _ _ (c .before .before .before .before .before .before .pre) _ (c .before .before .read .ensures)
@@ -28,22 +32,46 @@ sub-at : tie.Need-sub-at Inv-loop μ-loop
 sub-at c = let test = c .loop-test .taken in omega arith
 
 equal-requires : tie.Need-equal-requires Inv-loop μ-loop
-equal-requires c κs = let low = at-low _ _ _ _ (c .before .before .before .before .before .before .before .before .pre) _ (c .before .before .before .before .read .ensures) _ (c .before .loop .inv) (c .loop-test .taken) in let inside = c .before .before .before .before .before .before .before .before .pre .inside in omega arith
+equal-requires c κs =
+    let p = c .before .before .before .before .before .before .before .before .pre in
+    let x = c .before .before .before .before .read .ensures in
+    let low = at-low _ _ _ _ p _ x _ (c .before .loop .inv) (c .loop-test .taken) in
+    let inside = p .inside in
+    omega arith
 
 returns : tie.Need-returns Inv-loop μ-loop
-returns c = search-stop _ _ _ _ (c .before .before .before .before .before .before .before .before .before .before .pre) _ (c .before .before .before .before .before .before .read .ensures) _ (c .before .before .before .loop .inv) (c .before .before .loop-test .taken) _ (c .before .equal .ensures) (c .if1 .taken)
+returns c =
+    let p = c .before .before .before .before .before .before .before .before .before .before .pre in
+    let x = c .before .before .before .before .before .before .read .ensures in
+    search-stop _ _ _ _ p _ x _ (c .before .before .before .loop .inv) (c .before .before .loop-test .taken) _ (c .before .equal .ensures) (c .if1 .taken)
 
 mul-j : tie.Need-mul-j Inv-loop μ-loop
-mul-j c = let low = at-low _ _ _ _ (c .before .before .before .before .before .before .before .before .before .before .pre) _ (c .before .before .before .before .before .before .read .ensures) _ (c .before .before .before .loop .inv) (c .before .before .loop-test .taken) in let few = c .before .before .before .before .before .before .before .before .before .before .pre .few in omega arith
+mul-j c =
+    let p = c .before .before .before .before .before .before .before .before .before .before .pre in
+    let x = c .before .before .before .before .before .before .read .ensures in
+    let low = at-low _ _ _ _ p _ x _ (c .before .before .before .loop .inv) (c .before .before .loop-test .taken) in
+    let few = p .few in
+    omega arith
 
 slice-read-j : tie.Need-slice-read-j Inv-loop μ-loop
-slice-read-j c = let low = at-low _ _ _ _ (c .before .before .before .before .before .before .before .before .before .before .before .pre) _ (c .before .before .before .before .before .before .before .read .ensures) _ (c .before .before .before .before .loop .inv) (c .before .before .before .loop-test .taken) in let room = c .before .before .before .before .before .before .before .before .before .before .before .pre .room-before in omega arith
+slice-read-j c =
+    let p = c .before .before .before .before .before .before .before .before .before .before .before .pre in
+    let x = c .before .before .before .before .before .before .before .read .ensures in
+    let low = at-low _ _ _ _ p _ x _ (c .before .before .before .before .loop .inv) (c .before .before .before .loop-test .taken) in
+    let room = p .room-before in
+    omega arith
 
 loop-less : tie.Need-loop-less Inv-loop μ-loop
-loop-less c = search-falls _ _ _ _ (c .before .before .before .before .before .before .before .before .before .before .before .pre) _ (c .before .before .before .before .before .before .before .read .ensures) _ (c .before .before .before .before .loop .inv) (c .before .before .before .loop-test .taken)
+loop-less c =
+    let p = c .before .before .before .before .before .before .before .before .before .before .before .pre in
+    let x = c .before .before .before .before .before .before .before .read .ensures in
+    search-falls _ _ _ _ p _ x _ (c .before .before .before .before .loop .inv) (c .before .before .before .loop-test .taken)
 
 loop-again : tie.Need-loop-again Inv-loop μ-loop
-loop-again c = search-on _ _ _ _ (c .before .before .before .before .before .before .before .before .before .before .before .pre) _ (c .before .before .before .before .before .before .before .read .ensures) _ (c .before .before .before .before .loop .inv) (c .before .before .before .loop-test .taken) _ (c .before .before .equal .ensures) (c .before .if1 .left)
+loop-again c =
+    let p = c .before .before .before .before .before .before .before .before .before .before .before .pre in
+    let x = c .before .before .before .before .before .before .before .read .ensures in
+    search-on _ _ _ _ p _ x _ (c .before .before .before .before .loop .inv) (c .before .before .before .loop-test .taken) _ (c .before .before .equal .ensures) (c .before .if1 .left)
 
 mul-before : tie.Need-mul-before Inv-loop μ-loop
 mul-before c = let few = c .before .before .before .before .before .before .before .before .pre .few in omega arith
@@ -58,19 +86,20 @@ cast-last : tie.Need-cast-last Inv-loop μ-loop
 cast-last c = let few = c .before .before .before .before .before .before .before .before .pre .few in omega arith
 
 mul-last : tie.Need-mul-last Inv-loop μ-loop
-mul-last c = let key = c .before .before .before .before .before .before .before .before .pre .key in let few = c .before .before .before .before .before .before .before .before .pre .few in let e = c .before .before .before .before .read .ensures .b-is in omega arith
+mul-last c =
+    let key = c .before .before .before .before .before .before .before .before .pre .key in
+    let few = c .before .before .before .before .before .before .before .before .pre .few in
+    let e = c .before .before .before .before .read .ensures .b-is in
+    omega arith
 
 slice-write-last : tie.Need-slice-write-last Inv-loop μ-loop
 slice-write-last c = key-low _ _ _ _ (c .before .before .before .before .before .before .before .before .pre) _ (c .before .before .before .before .read .ensures)
 
-same-length : tie.Need-same-length Inv-loop μ-loop
-same-length c = simp length-set
-
-same-length-2 : tie.Need-same-length-2 Inv-loop μ-loop
-same-length-2 c = simp length-set
-
 returns-2 : tie.Need-returns-2 Inv-loop μ-loop
-returns-2 c = search-end _ _ _ _ (c .before .before .before .before .before .before .before .before .pre) _ (c .before .before .before .before .read .ensures) _ (c .before .loop .inv) (c .loop-test .left)
+returns-2 c =
+    let p = c .before .before .before .before .before .before .before .before .pre in
+    let x = c .before .before .before .before .read .ensures in
+    search-end _ _ _ _ p _ x _ (c .before .loop .inv) (c .loop-test .left)
 
 pub new-type-spec : {M : Type 1} → statement M
 new-type-spec =
@@ -98,6 +127,6 @@ new-type-spec =
     cast-last
     mul-last
     slice-write-last
-    same-length
-    same-length-2
+    (λ c. simp length-set)
+    (λ c. simp length-set)
     returns-2)

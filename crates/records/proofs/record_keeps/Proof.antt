@@ -4,7 +4,7 @@ use native.Mathlib.Omega.{arith}
 use Rattle.rules.specs.Lists.{both}
 use Rattle.rules.specs.Records.{shapes}
 use Rattle.fields.specs.Kinds.{field, typeTag}
-use Rattle.records.proofs.Passing.{row-asks, type-row-asks, cell-asks, says-type, says-cell, says-row, says-unknown, past}
+use Rattle.records.proofs.Keeping.{row-asks, type-row-asks, cell-asks, says-type, says-cell, says-row, says-unknown, past}
 use Rattle.records.proofs.record_keeps.Statement.{statement}
 use Rattle.records.proofs.record_keeps.Tie as tie
 

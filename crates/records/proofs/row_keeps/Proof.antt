@@ -15,7 +15,11 @@ same-length : tie.Need-same-length
 same-length c = c .before .before .before .field-keeps .kept .1 .0
 
 returns : tie.Need-returns
-returns c = row-a _ _ _ _ _ _ (c .before .before .before .before .before .before .before .before .pre) _ (c .before .before .before .before .before .read .ensures) _ _ (c .before .before .before .field-keeps .ensures) (not-true _ (c .if1 .taken))
+returns c =
+    let p = c .before .before .before .before .before .before .before .before .pre in
+    let x = c .before .before .before .before .before .read .ensures in
+    let a = c .before .before .before .field-keeps in
+    row-a _ _ _ _ _ _ p _ x _ _ (a .ensures) (not-true _ (c .if1 .taken))
 
 field-keeps-requires-2 : tie.Need-field-keeps-requires-2
 field-keeps-requires-2 c κs = next-field _ _ _ _ _ _ (c .before .before .before .before .before .before .before .before .before .pre) _ (c .before .before .before .before .field-keeps .kept .1 .0)
@@ -24,7 +28,12 @@ same-length-2 : tie.Need-same-length-2
 same-length-2 c = c .before .before .before .field-keeps2 .kept .1 .0 ∙ c .before .before .before .before .before .before .before .before .field-keeps .kept .1 .0
 
 returns-2 : tie.Need-returns-2
-returns-2 c = row-b _ _ _ _ _ _ (c .before .before .before .before .before .before .before .before .before .before .before .before .before .pre) _ (c .before .before .before .before .before .before .before .before .before .before .read .ensures) _ _ (c .before .before .before .before .before .before .before .before .field-keeps .ensures) (not-false _ (c .before .before .before .before .before .if1 .left)) _ _ (c .before .before .before .field-keeps2 .ensures) (not-true _ (c .if2 .taken))
+returns-2 c =
+    let p = c .before .before .before .before .before .before .before .before .before .before .before .before .before .pre in
+    let x = c .before .before .before .before .before .before .before .before .before .before .read .ensures in
+    let a = c .before .before .before .before .before .before .before .before .field-keeps in
+    let b = c .before .before .before .field-keeps2 in
+    row-b _ _ _ _ _ _ p _ x _ _ (a .ensures) (not-false _ (c .before .before .before .before .before .if1 .left)) _ _ (b .ensures) (not-true _ (c .if2 .taken))
 
 field-keeps-requires-3 : tie.Need-field-keeps-requires-3
 field-keeps-requires-3 c κs = next-field _ _ _ _ _ _ (c .before .before .before .before .before .before .before .before .before .before .before .before .before .before .pre) _ (c .before .before .before .before .field-keeps2 .kept .1 .0 ∙ c .before .before .before .before .before .before .before .before .before .field-keeps .kept .1 .0)
@@ -33,7 +42,12 @@ same-length-3 : tie.Need-same-length-3
 same-length-3 c = c .before .before .field-keeps3 .kept .1 .0 ∙ c .before .before .before .before .before .before .before .field-keeps2 .kept .1 .0 ∙ c .before .before .before .before .before .before .before .before .before .before .before .before .field-keeps .kept .1 .0
 
 returns-3 : tie.Need-returns-3
-returns-3 c = row-c _ _ _ _ _ _ (c .before .before .before .before .before .before .before .before .before .before .before .before .before .before .before .before .before .pre) _ (c .before .before .before .before .before .before .before .before .before .before .before .before .before .before .read .ensures) _ _ (c .before .before .before .before .before .before .before .before .before .before .before .before .field-keeps .ensures) (not-false _ (c .before .before .before .before .before .before .before .before .before .if1 .left)) _ _ (c .before .before .before .before .before .before .before .field-keeps2 .ensures) _ _ (not-false _ (c .before .before .before .before .if2 .left)) (c .before .before .field-keeps3 .ensures)
+returns-3 c =
+    let p = c .before .before .before .before .before .before .before .before .before .before .before .before .before .before .before .before .before .pre in
+    let x = c .before .before .before .before .before .before .before .before .before .before .before .before .before .before .read .ensures in
+    let a = c .before .before .before .before .before .before .before .before .before .before .before .before .field-keeps in
+    let b = c .before .before .before .before .before .before .before .field-keeps2 in
+    row-c _ _ _ _ _ _ p _ x _ _ (a .ensures) (not-false _ (c .before .before .before .before .before .before .before .before .before .if1 .left)) _ _ (b .ensures) _ _ (not-false _ (c .before .before .before .before .if2 .left)) (c .before .before .field-keeps3 .ensures)
 
 pub row-keeps-spec : {M : Type 1} → statement M
 row-keeps-spec =

@@ -32,7 +32,9 @@ same-length-4 : tie.Need-same-length-4 Inv-loop μ-loop
 same-length-4 c = c .before .before .before .before .before .before .before .before .before .record-keeps .kept .1 .1 .1 .1 .0 ∙ c .before .before .before .before .before .before .before .before .before .before .before .before .before .before .before .loop .inv .before
 
 returns : tie.Need-returns Inv-loop μ-loop
-returns c = going-stop _ _ _ _ _ _ _ _ _ _ _ (c .before .before .before .before .before .before .before .before .before .before .before .before .before .before .before .loop .inv) (c .before .before .before .before .before .before .before .before .before .before .before .before .before .before .loop-test .taken) _ _ _ _ _ (c .before .before .before .before .before .before .before .before .before .record-keeps .ensures) (not-true _ (c .if1 .taken))
+returns c =
+    let kept = c .before .before .before .before .before .before .before .before .before .record-keeps in
+    going-stop _ _ _ _ _ _ _ _ _ _ _ (c .before .before .before .before .before .before .before .before .before .before .before .before .before .before .before .loop .inv) (c .before .before .before .before .before .before .before .before .before .before .before .before .before .before .loop-test .taken) _ _ _ _ _ (kept .ensures) (not-true _ (c .if1 .taken))
 
 add-r : tie.Need-add-r Inv-loop μ-loop
 add-r c = let few = c .before .before .before .before .before .before .before .before .before .before .before .before .before .before .before .before .before .before .before .before .before .pre .few in let test = c .before .before .before .before .before .before .before .before .before .before .before .before .before .before .loop-test .taken in omega arith
@@ -41,7 +43,9 @@ loop-less : tie.Need-loop-less Inv-loop μ-loop
 loop-less c = let test = c .before .before .before .before .before .before .before .before .before .before .before .before .before .before .loop-test .taken in omega arith
 
 loop-again : tie.Need-loop-again Inv-loop μ-loop
-loop-again c = going-on _ _ _ _ _ _ _ _ _ _ _ (c .before .before .before .before .before .before .before .before .before .before .before .before .before .before .before .loop .inv) (c .before .before .before .before .before .before .before .before .before .before .before .before .before .before .loop-test .taken) _ _ _ _ _ (c .before .before .before .before .before .before .before .before .before .record-keeps .ensures) (not-false _ (c .if1 .left)) (c .before .before .before .before .before .before .before .before .before .record-keeps .kept .1 .0) (c .before .before .before .before .before .before .before .before .before .record-keeps .kept .1 .1 .0) (c .before .before .before .before .before .before .before .before .before .record-keeps .kept .1 .1 .1 .0) (c .before .before .before .before .before .before .before .before .before .record-keeps .kept .1 .1 .1 .1 .0)
+loop-again c =
+    let kept = c .before .before .before .before .before .before .before .before .before .record-keeps in
+    going-on _ _ _ _ _ _ _ _ _ _ _ (c .before .before .before .before .before .before .before .before .before .before .before .before .before .before .before .loop .inv) (c .before .before .before .before .before .before .before .before .before .before .before .before .before .before .loop-test .taken) _ _ _ _ _ (kept .ensures) (not-false _ (c .if1 .left)) (kept .kept .1 .0) (kept .kept .1 .1 .0) (kept .kept .1 .1 .1 .0) (kept .kept .1 .1 .1 .1 .0)
 
 same-length-5 : tie.Need-same-length-5 Inv-loop μ-loop
 same-length-5 c = c .before .loop .inv .marks

@@ -1,6 +1,6 @@
 -- `records::type_keeps` meets its contract.
 use borrow.Author.Tests.{not-true, not-false}
-use Rattle.records.proofs.Passing.{type-breaks, type-asks, type-says}
+use Rattle.records.proofs.Keeping.{type-breaks, type-asks, type-says}
 use Rattle.records.proofs.type_keeps.Statement.{statement}
 use Rattle.records.proofs.type_keeps.Tie as tie
 
