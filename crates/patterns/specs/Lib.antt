@@ -1,1 +1,1 @@
-pub mod Offences  -- offences of one equation and of those still ahead
+pub mod Occurrences  -- one hole occurrence

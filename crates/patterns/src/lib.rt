@@ -1,7 +1,4 @@
-// Patterns (7): the lowest hole occurrence, reached from an equation, whose arguments are not different bare variables.
-use table::EQ;
-use table::HA;
-use table::LA;
+// Patterns (7): whether a hole occurrence's arguments are different bare variables.
 use table::NONE;
 use table::VA;
 use table::Variable;
@@ -9,12 +6,10 @@ use table::read;
 ghost use mathlib.Core.Path.{_≡_};
 ghost use mathlib.Core.List.{map};
 ghost use Prim.Native.Nat.{min};
-ghost use Rattle.rules.specs.Lists.{both, all, among, distinct, enough};
-ghost use Rattle.rules.specs.Words.{fieldA, isTerm, elements, bare};
-ghost use Rattle.rules.specs.Pattern.{offence, no-pattern};
-ghost use Rattle.laws.specs.Members.{Legal};
-ghost use Rattle.laws.specs.Places.{RecordAt, TermAt, ListAt};
-ghost use Rattle.patterns.specs.Offences.{among-terms, reached};
+ghost use Rattle.rules.specs.Lists.{among};
+ghost use Rattle.rules.specs.Words.{fieldA, isTerm, elements};
+ghost use Rattle.laws.specs.Places.{ListAt};
+ghost use Rattle.patterns.specs.Occurrences.{different, occurrence};
 
 // The lesser of two numbers.
 fn lesser(a: u32, b: u32) -> u32
@@ -28,94 +23,48 @@ fn named(table: &[u32], l: u32, v: Variable) -> bool
     requires { ⌜ ListAt (isTerm (now table)) (now table) l ⌝ }
     ensures { λ b. ⌜ b ≡ among (map (λ x. fieldA (now (table .entry)) x) (elements (now (table .entry)) l)) (v .0) ⌝ }
 {
-    if l == NONE {
-        return false;
+    let mut list = l;
+    while list != NONE {
+        let cell = read(table, list);
+        let x = read(table, cell.a);
+        if x.a == v.0 {
+            return true;
+        }
+        list = cell.b;
     }
-    let cell = read(table, l);
-    let x = read(table, cell.a);
-    if x.a == v.0 {
-        return true;
-    }
-    named(table, cell.b, v)
+    false
 }
 
 // All arguments are bare variables with different numbers.
 fn different(table: &[u32], l: u32) -> bool
     requires { ⌜ ListAt (isTerm (now table)) (now table) l ⌝ }
-    ensures { λ b. ⌜ b ≡ both (all (bare (now (table .entry))) (elements (now (table .entry)) l)) (distinct (map (λ x. fieldA (now (table .entry)) x) (elements (now (table .entry)) l))) ⌝ }
+    ensures { λ b. ⌜ b ≡ different (now (table .entry)) l ⌝ }
 {
-    if l == NONE {
-        return true;
+    let mut list = l;
+    while list != NONE {
+        let cell = read(table, list);
+        let x = read(table, cell.a);
+        if x.tag != VA {
+            return false;
+        }
+        if x.b != NONE {
+            return false;
+        }
+        if named(table, cell.b, Variable(x.a)) {
+            return false;
+        }
+        list = cell.b;
     }
-    let cell = read(table, l);
-    let x = read(table, cell.a);
-    if x.tag != VA {
-        return false;
-    }
-    if x.b != NONE {
-        return false;
-    }
-    if named(table, cell.b, Variable(x.a)) {
-        return false;
-    }
-    different(table, cell.b)
+    true
 }
 
-// The lowest offending occurrence in a term, or NONE.
-pub fn offence(table: &[u32], r: u32) -> u32
-    requires { ⌜ TermAt (now table) r ⌝ }
-    ensures { λ x. ⌜ x ≡ offence enough (now (table .entry)) r ⌝ }
-{
-    let x = read(table, r);
-    if x.tag == LA {
-        return offence(table, x.a);
-    }
-    let inside = offence_among(table, x.b);
-    if x.tag != HA {
-        return inside;
-    }
-    if different(table, x.b) {
-        return inside;
-    }
-    lesser(r, inside)
-}
-
-// The lowest offending occurrence in a list of terms, or NONE.
-fn offence_among(table: &[u32], l: u32) -> u32
+// The lowest offending occurrence so far, after the one at a record with these arguments.
+pub fn offended(table: &[u32], low: u32, at: u32, l: u32) -> u32
     requires { ⌜ ListAt (isTerm (now table)) (now table) l ⌝ }
-    ensures { λ x. ⌜ x ≡ among-terms (now (table .entry)) l ⌝ }
+    ensures { λ r. ⌜ r ≡ min low (occurrence (now (table .entry)) at l) ⌝ }
 {
-    if l == NONE {
-        return NONE;
+    if different(table, l) {
+        return low;
     }
-    let cell = read(table, l);
-    let first = offence(table, cell.a);
-    lesser(first, offence_among(table, cell.b))
-}
-
-// The lowest offending occurrence that a record reaches, if it is an equation; otherwise NONE.
-fn reached(table: &[u32], e: u32) -> u32
-    requires { ⌜ RecordAt (now table) e ⌝ }
-    ensures { λ x. ⌜ x ≡ reached (now (table .entry)) e ⌝ }
-{
-    let x = read(table, e);
-    if x.tag != EQ {
-        return NONE;
-    }
-    let left = offence(table, x.a);
-    lesser(left, offence(table, x.b))
-}
-
-// The lowest offending occurrence that an equation reaches, or NONE.
-pub fn no_pattern(table: &[u32], n: u32) -> u32
-    requires { ⌜ Legal (now table) n ⌝ }
-    ensures { λ x. ⌜ x ≡ no-pattern (now (table .entry)) n ⌝ }
-{
-    let mut lowest = NONE;
-    let mut e = 0;
-    while e < n {
-        lowest = lesser(lowest, reached(table, e));
-        e += 1;
-    }
-    lowest
+    lesser(low, at)
 }
