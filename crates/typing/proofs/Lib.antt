@@ -1,2 +1,5 @@
-pub mod Heads  -- what heads ask
-pub mod Steps  -- what a step of the check has to show
+pub mod Heads  -- final types, domains and the types of variables
+pub mod Bare  -- a hole's argument that is a bare variable
+pub mod Occurrences  -- offending occurrences in a term and in a list
+pub mod Arguments  -- an argument list, turn by turn
+pub mod Terms  -- a term under its lambdas

@@ -1,2 +1,4 @@
 pub mod Stack  -- binder types on a stack
-pub mod Asks  -- what a head asks, and what the functions ask and answer
+pub mod Offences  -- offences of one equation and of those still ahead
+pub mod Asks  -- what the functions ask and answer
+pub mod Judging  -- answers 6 and 7 together

@@ -1,5 +1,7 @@
 -- `typing::type_of` meets its contract.
 use mathlib.Core.Path.{sym, ap, _∙_}
+use Prim.Native.Nat.{_-_}
+use native.Mathlib.Omega.{arith}
 use denote.Ref.{now}
 use Rattle.rules.specs.declared.Found.the-variants.{At}
 use Rattle.typing.specs.Stack.{binders, binders-at, binders-count, type-bound, type-free}
@@ -18,4 +20,4 @@ returns-2 c = sym (type-free (binders (now (c .before .before .args .stack)) (c 
 
 pub type-of-spec : {M : Type 1} → statement M
 type-of-spec =
-    tie.close (tie.spec (λ c. search needs) (λ c. search needs) (λ c. search needs) (λ c. search needs) (λ c. search needs) returns returns-2)
+    tie.close (tie.spec (λ c. search needs) (λ c. search needs) (λ c. search needs) (λ c. search needs) (λ c. search needs) (λ c. omega (arith, c .shared-slice-known .given (c .before .before .before .args .depth - 1 - c .before .before .before .args .v .0))) returns returns-2)
