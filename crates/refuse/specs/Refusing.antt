@@ -1,12 +1,12 @@
 -- The parts of a refusal, in order.
 use Prim.Native.Nat.{ℕ, _*_, _/_, _<_, _≤_}
-use mathlib.Core.Path.{_≡_, sym, _∙_}
+use mathlib.Core.Path.{_≡_, refl, sym, _∙_}
 use mathlib.Core.List.{List}
 use mathlib.Core.Bool.{Bool, true, false}
 use native.Mathlib.Omega.{arith}
 use lib.ListN.{length}
 use lib.Dec.{eqb, ltb}
-use borrow.Author.Tests.{lt-ltb, le-ltb, ne-eqb}
+use borrow.Author.Tests.{lt-ltb, le-ltb}
 use Rattle.rules.specs.declared.Found.{Found}
 use Rattle.rules.specs.declared.Found.the-variants.{At, Nowhere}
 use Rattle.table.specs.declared.Record.{Record}
@@ -17,6 +17,9 @@ use Rattle.rules.specs.Answers.{records}
 use Rattle.rules.specs.Records.{broken}
 use Rattle.rules.specs.Typing.{ill-typed}
 use Rattle.rules.specs.Pattern.{no-pattern}
+use Rattle.typing.specs.declared.Judged.{Judged}
+use Rattle.typing.specs.declared.Judged.the-variants.{Fine, IllTyped, NoPattern}
+use Rattle.typing.specs.Judging.{judged}
 use Rattle.rules.specs.Solve.{Refusal as Refuses, admitted, refused, refusal}
 use Rattle.laws.specs.Sound.{broken-none}
 use Rattle.laws.specs.Members.{Legal}
@@ -57,17 +60,26 @@ module _ (ws : List ℕ) where
   room-most k e h = omega arith
 
 module _ (ws : List ℕ) (n : ℕ) where
-  pub ill-typed-at : (x : Found) (p : ℕ) → x ≡ ill-typed ws n → x ≡ At p → typed ws n ≡ refused 6 p
-  unfolding typed
-  ill-typed-at x p e z = rw (sym e ∙ z, typed)
+  -- what is judged gives 6 and 7
+  judged-typed : typed ws n ≡ elim (judged ws n) [ Fine ↦ admitted | IllTyped p ↦ refused 6 p | NoPattern p ↦ refused 7 p ]
+  unfolding typed judged
+  judged-typed = go (ill-typed ws n) (eqb (no-pattern ws n) NONE) refl refl
+    where
+      go : (f : Found) (b : Bool) → ill-typed ws n ≡ f → eqb (no-pattern ws n) NONE ≡ b
+          → typed ws n ≡ elim (judged ws n) [ Fine ↦ admitted | IllTyped p ↦ refused 6 p | NoPattern p ↦ refused 7 p ]
+      go (At r) b e q = rw (e, typed, judged)
+      go Nowhere true e q = rw (e, q, typed, judged)
+      go Nowhere false e q = rw (e, q, typed, judged)
 
-  pub no-pattern-at : (x : Found) (p : ℕ) → x ≡ ill-typed ws n → x ≡ Nowhere → p ≡ no-pattern ws n → (p ≡ NONE → ⊥) → typed ws n ≡ refused 7 p
-  unfolding typed
-  no-pattern-at x p e z q ne = rw (sym e ∙ z, typed, sym q, ne-eqb _ _ ne, sym q)
+  module _ (x : Judged) (e : x ≡ judged ws n) where
+    pub ill-typed-at : (p : ℕ) → x ≡ IllTyped p → typed ws n ≡ refused 6 p
+    ill-typed-at p z = judged-typed ∙ rw (sym e ∙ z)
 
-  pub typed-all : (x : Found) (p : ℕ) → x ≡ ill-typed ws n → x ≡ Nowhere → p ≡ no-pattern ws n → p ≡ NONE → typed ws n ≡ admitted
-  unfolding typed
-  typed-all x p e z q none = rw (sym e ∙ z, typed, sym q ∙ none)
+    pub no-pattern-at : (p : ℕ) → x ≡ NoPattern p → typed ws n ≡ refused 7 p
+    no-pattern-at p z = judged-typed ∙ rw (sym e ∙ z)
+
+    pub typed-all : x ≡ Fine → typed ws n ≡ admitted
+    typed-all z = judged-typed ∙ rw (sym e ∙ z)
 
   -- a record asked for
   pub hole-within : (h : ℕ) (w : Record) (b : Bool) → h < n → IsRecord ws h w → eqb (w .tag) 4 ≡ b → isHole ws n h ≡ b

@@ -1,11 +1,10 @@
 // The order of refusals before the machine: 4, 5, 10, 6, 7.
-use patterns::no_pattern;
 use records::broken;
 use rules::Found;
 use table::HO;
-use table::NONE;
 use table::read;
-use typing::ill_typed;
+use typing::Judged;
+use typing::judge;
 ghost use mathlib.Core.Path.{_≡_};
 ghost use Prim.Native.Nat.{ℕ};
 ghost use Rattle.rules.specs.Answers.{records};
@@ -41,15 +40,10 @@ fn refuse_terms(table: &[u32], n: u32) -> Refusal
     requires { ⌜ Legal (now table) n ⌝ }
     ensures { λ r. ⌜ typed (now (table .entry)) n ≡ refusalOf r ⌝ }
 {
-    match ill_typed(table, n) {
-        Found::At(place) => Refusal::Refused { answer: 6, place },
-        Found::Nowhere => {
-            let place = no_pattern(table, n);
-            if place == NONE {
-                return Refusal::Admitted;
-            }
-            Refusal::Refused { answer: 7, place }
-        }
+    match judge(table, n) {
+        Judged::Fine => Refusal::Admitted,
+        Judged::IllTyped(place) => Refusal::Refused { answer: 6, place },
+        Judged::NoPattern(place) => Refusal::Refused { answer: 7, place },
     }
 }
 

@@ -5,8 +5,7 @@ use Rattle.refuse.proofs.refuse_terms.Statement.{statement}
 use Rattle.refuse.proofs.refuse_terms.Tie as tie
 use Rattle.refuse.proofs.refuse_terms.Reads as reads
 use Rattle.refuse.proofs.refuse_terms.Lts as lts
-use Rattle.patterns.proofs.no_pattern.Reads as no-pattern-reads
-use Rattle.typing.proofs.ill_typed.Reads as ill-typed-reads
+use Rattle.typing.proofs.judge.Reads as judge-reads
 
 pub refuse-terms-spec : {M : Type 1} → statement M
 refuse-terms-spec =
@@ -15,7 +14,7 @@ refuse-terms-spec =
     (λ c κs. search needs)
     (λ c. search needs)
     (λ c. search needs)
-    (λ c κs. search needs)
-    (λ c. search (ill-typed-at, no-pattern-at, typed-all))
-    (λ c. search (ill-typed-at, no-pattern-at, typed-all))
-    (λ c. search (ill-typed-at, no-pattern-at, typed-all)))
+    (λ c. search needs)
+    (λ c. search typed-all)
+    (λ c. search ill-typed-at)
+    (λ c. search no-pattern-at))
