@@ -1,8 +1,9 @@
 -- Answers 4 to 7 in their order: what solving asks before the machine, where there are words enough for solutions.
 use Prim.Native.Nat.{ℕ, _≤_}
-use mathlib.Core.Path.{_≡_, refl}
+use mathlib.Core.Path.{_≡_, refl, sym, _∙_}
 use mathlib.Core.Bool.{Bool, true, false}
 use mathlib.Core.List.{List}
+use native.Mathlib.Omega.{arith}
 use borrow.Author.Tests.{le-ltb}
 use lib.ListN.{length}
 use lib.Dec.{eqb, ltb}
@@ -14,13 +15,8 @@ use Rattle.rules.specs.Records.{broken}
 use Rattle.rules.specs.Typing.{ill-typed}
 use Rattle.rules.specs.Pattern.{no-pattern}
 use Rattle.rules.specs.Solve.{Refusal, admitted, refused, refusal}
-use Rattle.checks.specs.declared.Checked.{Checked}
-use Rattle.checks.specs.declared.Checked.the-variants.{Admitted, Refused}
-
--- this paper's answer and place for each case
-unfoldable pub said : Checked → Refusal
-said Admitted = admitted
-said (Refused a p) = refused a p
+use Rattle.refuse.specs.declared.Asked.the-variants.{Solving}
+use Rattle.refuse.specs.Refusing.{asks}
 
 -- the order 4, 5, 6, 7
 unfoldable pub checked : List ℕ → ℕ → Refusal
@@ -44,3 +40,8 @@ refusal-checked ws ss n h = go (ltb (records ws) n) refl
     go : (b : Bool) → ltb (records ws) n ≡ b → refusal true ws ss n ≡ checked ws n
     go true e = rw (e, refusal, checked)
     go false e = rw (e, le-ltb _ _ h, refusal, checked)
+
+-- a table has as many words as it has records
+pub solving-checked : (ws : List ℕ) (n : ℕ) (x : Refusal) → refusal (asks Solving ws n) ws ws n ≡ x → x ≡ checked ws n
+unfolding asks records
+solving-checked ws n x e = sym e ∙ refusal-checked ws ws n (omega arith)

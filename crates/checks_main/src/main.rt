@@ -1,8 +1,8 @@
 // Runs the checks on stored problems: from standard input, each as n, the number of words and the words, all u32 little-endian; a line
 // `answer place` for each, 0 0 where it is admitted.
-use checks::Checked;
 use checks::check;
 use libc::STDOUT_FILENO;
+use refuse::Refusal;
 use stored::fill;
 use stored::read_bytes;
 use stored::word;
@@ -23,8 +23,8 @@ fn answer(bytes: &[u8], n: usize, words: &mut [u32])
 {
     fill(bytes, 0, words);
     match check(words, n) {
-        Checked::Admitted => print(0, 0),
-        Checked::Refused(answer, place) => print(answer, place),
+        Refusal::Admitted => print(0, 0),
+        Refusal::Refused { answer, place } => print(answer, place),
     }
 }
 
