@@ -16,11 +16,10 @@ use Rattle.laws.specs.Sound.{Sound, type-tag}
 use Rattle.table.specs.declared.Record.{Record}
 use Rattle.table.specs.Reading.{IsRecord}
 use Rattle.fields.specs.declared.Field.{Field}
-use Rattle.fields.specs.declared.Field.the-variants.{Nil, Element, Rest}
 use Rattle.fields.specs.Kinds.{field, typeTag, Above}
 use Rattle.records.specs.Marks.{ListAsks, ListSays}
 use Rattle.records.specs.Chains.{TypeAsks, TypeSays}
-use Rattle.records.specs.Rows.{RowAsks, RowSays, TypeRowAsks, TypeRowSays, CellAsks, CellSays, RecordAsks, RecordSays}
+use Rattle.records.specs.Rows.{RowAsks, RowSays, RecordAsks, RecordSays}
 use Rattle.records.proofs.Lengths.{listed-other, lengths-other}
 use Rattle.records.proofs.Earlier.{chains-other, new-other}
 
@@ -40,8 +39,11 @@ module _ (ws : List ℕ) (r : ℕ) where
   unfolding keeps
   keeps-is k e = rw e (keeps-parts (shaped ws r) (listed ws r) (new-type ws r) (first-use ws r))
 
-  row-breaks : (ms : List ℕ) (k : Bool) → RowSays ws ms r k → k ≡ false → false ≡ keeps ws r
-  row-breaks ms k s t = sym (keeps-is k (s .answer) ∙ (unfold both in rw t))
+  pub says-broken : (ms ls la be : List ℕ) (b : Bool) → RowSays ws ms r b → b ≡ false → RecordSays ws ms ls la be r b
+  says-broken ms ls la be b s t = record {
+    answer = t ∙ sym (keeps-is b (s .answer) ∙ (unfold both in rw t));
+    next = λ v. absurd (false-true (sym t ∙ v));
+  }
 
   row-shaped : (ms : List ℕ) (k : Bool) → RowSays ws ms r k → k ≡ true → shaped ws r ≡ true
   row-shaped ms k s t = both-true _ _ (sym (s .answer) ∙ t) .0
@@ -69,61 +71,6 @@ module _ (ws : List ℕ) (r : ℕ) where
   shape-at : (k : ℕ) → tag ws r ≡ k → (a b c : Field) → getD shapes k (never, never, never) ≡ (field a, field b, field c) → shape ws r ≡ (field a, field b, field c)
   unfolding shape
   shape-at k e a b c h = rw e h
-
--- A type
-
-module _ (ws ms la be : List ℕ) (r : ℕ) (a b : Field) (p : TypeRowAsks ws ms la be r a b) (ms₁ : List ℕ) (k : Bool) (s : RowSays ws ms₁ r k) where
-  pub type-breaks : k ≡ false → TypeRowSays ws ms₁ la be r false
-  type-breaks t = record { answer = row-breaks ws r ms₁ k s t; marks = λ w. absurd (false-true w); chains = λ w. absurd (false-true w) }
-
-  module _ (t : k ≡ true) where
-    pub type-asks : TypeAsks ws la be r
-    type-asks = record {
-      inside = p .fields .above .inside;
-      few = p .fields .above .few;
-      type = p .type;
-      key = key-low ws r (type-tag ws r (p .type)) (row-shaped ws r ms₁ k s t);
-      room-last = p .room-last;
-      room-before = p .room-before;
-      known = p .known;
-    }
-
-    pub type-says : (la₁ be₁ : List ℕ) (y : Bool) → TypeSays ws la₁ be₁ r y → TypeRowSays ws ms₁ la₁ be₁ r y
-    type-says la₁ be₁ y h = record {
-      answer = h .answer ∙ sym (keeps-is ws r k (s .answer) ∙ (unfold both in rw (t, ← listed-other ws r (type-no-cell ws r (p .type)))));
-      marks = λ w. s .next t;
-      chains = h .next;
-    }
-
--- A list cell
-
-module _ (ws ms ls : List ℕ) (r : ℕ) (p : CellAsks ws ms ls r) where
-  pub cell-row : RowAsks ws ms r Element Rest Nil
-  cell-row = record {
-    above = p .above;
-    row = shape-at ws r CE (p .cell) Element Rest Nil (unfold shapes in unfold field in refl);
-    room = p .room-marks;
-    known = p .marks;
-  }
-
-  module _ (ms₁ : List ℕ) (k : Bool) (s : RowSays ws ms₁ r k) where
-    pub cell-breaks : k ≡ false → CellSays ws ms₁ ls r false
-    cell-breaks t = record { answer = row-breaks ws r ms₁ k s t; marks = λ w. absurd (false-true w); lengths = λ w. absurd (false-true w) }
-
-    module _ (t : k ≡ true) where
-      pub list-asks : ListAsks ws ls r
-      list-asks = record { above = p .above; cell = p .cell; so = row-shaped ws r ms₁ k s t; room = p .room-lengths; known = p .lengths }
-
-      pub cell-says : (ls₁ : List ℕ) (y : Bool) → ListSays ws ls₁ r y → CellSays ws ms₁ ls₁ r y
-      cell-says ls₁ y h = record {
-        answer = h .answer ∙ sym (keeps-is ws r k (s .answer) ∙ rw (t, new-other ws r (cell-no-type ws r (p .cell))) (single (listed ws r)));
-        marks = λ w. s .next t;
-        lengths = h .next;
-      }
-        where
-          single : (b : Bool) → both true (both b true) ≡ b
-          single true = unfold both in refl
-          single false = unfold both in refl
 
 -- A record, by tag
 
@@ -154,46 +101,64 @@ module _ (ws ms ls la be : List ℕ) (r : ℕ) (p : RecordAsks ws ms ls la be r)
     unfolding isType typeTag
     kind-is t h = rw at-tag h
 
-    pub type-row-asks : (a b : Field) → getD shapes k (never, never, never) ≡ (field a, field b, field Nil) → typeTag k ≡ true → TypeRowAsks ws ms la be r a b
-    type-row-asks a b h t = let l = p .room .last in let m = p .room .before in record {
-      fields = row-asks a b Nil h;
-      type = kind-is true t;
-      room-last = omega arith;
-      room-before = omega arith;
-      known = p .passed .chains;
-    }
+    module _ (ms₁ : List ℕ) (b : Bool) (s : RowSays ws ms₁ r b) (t : b ≡ true) where
+      pub type-asks : typeTag k ≡ true → TypeAsks ws la be r
+      type-asks h = let l = p .room .last in let m = p .room .before in record {
+        inside = p .inside;
+        few = p .few;
+        type = kind-is true h;
+        key = key-low ws r (type-tag ws r (kind-is true h)) (row-shaped ws r ms₁ b s t);
+        room-last = omega arith;
+        room-before = omega arith;
+        known = p .passed .chains;
+      }
 
-    pub cell-asks : k ≡ CE → CellAsks ws ms ls r
-    cell-asks c = let m = p .room .marks in let l = p .room .lengths in record {
-      above = above;
-      cell = at-tag ∙ c;
-      room-marks = omega arith;
-      room-lengths = omega arith;
-      marks = p .passed .marks;
-      lengths = p .passed .lengths;
-    }
+      pub says-type : typeTag k ≡ true → (la₁ be₁ : List ℕ) (y : Bool) → TypeSays ws la₁ be₁ r y → RecordSays ws ms₁ ls la₁ be₁ r y
+      says-type h la₁ be₁ y q = record {
+        answer = answer;
+        next = λ v. record {
+          lower = sound-next (sym answer ∙ v);
+          marks = s .next t;
+          lengths = lengths-other ws r ls no-cell (p .passed .lengths);
+          chains = q .next v;
+        };
+      }
+        where
+          no-cell : tag ws r ≡ CE → ⊥
+          no-cell = type-no-cell ws r (kind-is true h)
 
-    pub says-type : typeTag k ≡ true → (ms₁ la₁ be₁ : List ℕ) (y : Bool) → TypeRowSays ws ms₁ la₁ be₁ r y → RecordSays ws ms₁ ls la₁ be₁ r y
-    says-type t ms₁ la₁ be₁ y s = record {
-      answer = s .answer;
-      next = λ v. record {
-        lower = sound-next (sym (s .answer) ∙ v);
-        marks = s .marks v;
-        lengths = lengths-other ws r ls (type-no-cell ws r (kind-is true t)) (p .passed .lengths);
-        chains = s .chains v;
-      };
-    }
+          answer : y ≡ keeps ws r
+          answer = q .answer ∙ sym (keeps-is ws r b (s .answer) ∙ (unfold both in rw (t, ← listed-other ws r no-cell)))
 
-    pub says-cell : k ≡ CE → (ms₁ ls₁ : List ℕ) (y : Bool) → CellSays ws ms₁ ls₁ r y → RecordSays ws ms₁ ls₁ la be r y
-    says-cell c ms₁ ls₁ y s = record {
-      answer = s .answer;
-      next = λ v. record {
-        lower = sound-next (sym (s .answer) ∙ v);
-        marks = s .marks v;
-        lengths = s .lengths v;
-        chains = chains-other ws la be r (cell-no-type ws r (at-tag ∙ c)) (p .passed .chains);
-      };
-    }
+      pub list-asks : k ≡ CE → ListAsks ws ls r
+      list-asks c = let l = p .room .lengths in record {
+        above = above;
+        cell = at-tag ∙ c;
+        so = row-shaped ws r ms₁ b s t;
+        room = omega arith;
+        known = p .passed .lengths;
+      }
+
+      pub says-cell : k ≡ CE → (ls₁ : List ℕ) (y : Bool) → ListSays ws ls₁ r y → RecordSays ws ms₁ ls₁ la be r y
+      says-cell c ls₁ y q = record {
+        answer = answer;
+        next = λ v. record {
+          lower = sound-next (sym answer ∙ v);
+          marks = s .next t;
+          lengths = q .next v;
+          chains = chains-other ws la be r no-type (p .passed .chains);
+        };
+      }
+        where
+          no-type : isType ws r ≡ false
+          no-type = cell-no-type ws r (at-tag ∙ c)
+
+          single : (g : Bool) → both true (both g true) ≡ g
+          single true = unfold both in refl
+          single false = unfold both in refl
+
+          answer : y ≡ keeps ws r
+          answer = q .answer ∙ sym (keeps-is ws r b (s .answer) ∙ rw (t, new-other ws r no-type) (single (listed ws r)))
 
     pub says-row : typeTag k ≡ false → (k ≡ CE → ⊥) → (ms₁ : List ℕ) (y : Bool) → RowSays ws ms₁ r y → RecordSays ws ms₁ ls la be r y
     says-row t n ms₁ y s =

@@ -5,11 +5,9 @@ use mathlib.Core.Bool.{Bool, true}
 use mathlib.Core.List.{List, _++_}
 use lib.ListN.{length}
 use Rattle.rules.specs.Lists.{both}
-use Rattle.rules.specs.Words.{CE, tag, isType}
 use Rattle.rules.specs.Records.{shape, fits, shaped, first-use, keeps}
 use Rattle.laws.specs.Sound.{Sound}
 use Rattle.fields.specs.declared.Field.{Field}
-use Rattle.fields.specs.declared.Field.the-variants.{Nil}
 use Rattle.fields.specs.Kinds.{field, Above}
 use Rattle.records.specs.Marks.{Lengths, Marked, used, fresh, reference-of}
 use Rattle.records.specs.Chains.{Chains}
@@ -35,33 +33,6 @@ pub record RowAsks (ws ms : List ℕ) (r : ℕ) (a b c : Field) : Type 0 where
 pub record RowSays (ws ms : List ℕ) (r : ℕ) (k : Bool) : Type 0 where
   pub answer : k ≡ both (shaped ws r) (first-use ws r)
   pub next : k ≡ true → Marked ms (used ws (r + 1))
-
--- record r is a type
-pub record TypeRowAsks (ws ms la be : List ℕ) (r : ℕ) (a b : Field) : Type 0 where
-  pub fields : RowAsks ws ms r a b Nil
-  pub type : isType ws r ≡ true
-  pub room-last : r < length la
-  pub room-before : r < length be
-  pub known : Chains la be ws r
-
-pub record TypeRowSays (ws ms la be : List ℕ) (r : ℕ) (k : Bool) : Type 0 where
-  pub answer : k ≡ keeps ws r
-  pub marks : k ≡ true → Marked ms (used ws (r + 1))
-  pub chains : k ≡ true → Chains la be ws (r + 1)
-
--- record r is a list cell
-pub record CellAsks (ws ms ls : List ℕ) (r : ℕ) : Type 0 where
-  pub above : Above ws r
-  pub cell : tag ws r ≡ CE
-  pub room-marks : r ≤ length ms
-  pub room-lengths : r < length ls
-  pub marks : Marked ms (used ws r)
-  pub lengths : Lengths ls ws r
-
-pub record CellSays (ws ms ls : List ℕ) (r : ℕ) (k : Bool) : Type 0 where
-  pub answer : k ≡ keeps ws r
-  pub marks : k ≡ true → Marked ms (used ws (r + 1))
-  pub lengths : k ≡ true → Lengths ls ws (r + 1)
 
 -- all records below r keep the rules, and the marks are right
 pub record Passed (ws ms ls la be : List ℕ) (r : ℕ) : Type 0 where

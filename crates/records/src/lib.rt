@@ -15,7 +15,7 @@ ghost use lib.ListN.{length};
 ghost use Rattle.rules.specs.Records.{broken};
 ghost use Rattle.records.specs.Marks.{alikeTags, refersTo, counts, ListAsks, ListSays, MarkAsks, MarkSays};
 ghost use Rattle.records.specs.Chains.{equals, TypeAsks, TypeSays};
-ghost use Rattle.records.specs.Rows.{FieldAsks, FieldSays, RowAsks, RowSays, TypeRowAsks, TypeRowSays, CellAsks, CellSays, RecordAsks, RecordSays, SearchAsks};
+ghost use Rattle.records.specs.Rows.{FieldAsks, FieldSays, RowAsks, RowSays, RecordAsks, RecordSays, SearchAsks};
 
 // Both are tags of types, or both of terms.
 fn alike_tags(k: u32, j: u32) -> bool
@@ -167,36 +167,6 @@ fn row_keeps(table: &[u32], marks: &mut [u8], r: u32, a: Field, b: Field, c: Fie
     field_keeps(table, marks, r, c, x.c)
 }
 
-// A type keeps the rules.
-fn type_keeps(
-    table: &[u32],
-    marks: &mut [u8],
-    last: &mut [u16],
-    before: &mut [u16],
-    r: u32,
-    a: Field,
-    b: Field,
-) -> bool
-    requires { ⌜ TypeRowAsks (now table) (now marks) (now last) (now before) r a b ⌝ }
-    ensures { λ k. ⌜ TypeRowSays (now (table .entry)) (now (marks .exit)) (now (last .exit)) (now (before .exit)) r k ⌝ }
-{
-    if !row_keeps(table, marks, r, a, b, Field::Nil) {
-        return false;
-    }
-    new_type(table, last, before, r)
-}
-
-// A list cell keeps the rules.
-fn cell_keeps(table: &[u32], marks: &mut [u8], lengths: &mut [u8], r: u32) -> bool
-    requires { ⌜ CellAsks (now table) (now marks) (now lengths) r ⌝ }
-    ensures { λ k. ⌜ CellSays (now (table .entry)) (now (marks .exit)) (now (lengths .exit)) r k ⌝ }
-{
-    if !row_keeps(table, marks, r, Field::Element, Field::Rest, Field::Nil) {
-        return false;
-    }
-    listed(table, lengths, r)
-}
-
 // A record keeps the rules; the arms are the records section's table, and an unknown tag has no row.
 fn record_keeps(
     table: &[u32],
@@ -212,11 +182,14 @@ fn record_keeps(
     let x = read(table, r);
     let k = x.tag;
     match k {
-        1 => type_keeps(table, marks, last, before, r, Field::Any, Field::Nil),
-        2 => type_keeps(table, marks, last, before, r, Field::OfType, Field::OfType),
+        1 => row_keeps(table, marks, r, Field::Any, Field::Nil, Field::Nil)
+            && new_type(table, last, before, r),
+        2 => row_keeps(table, marks, r, Field::OfType, Field::OfType, Field::Nil)
+            && new_type(table, last, before, r),
         3 => row_keeps(table, marks, r, Field::OfType, Field::Nil, Field::Nil),
         4 => row_keeps(table, marks, r, Field::Types, Field::OfBase, Field::Nil),
-        5 => cell_keeps(table, marks, lengths, r),
+        5 => row_keeps(table, marks, r, Field::Element, Field::Rest, Field::Nil)
+            && listed(table, lengths, r),
         6 => row_keeps(table, marks, r, Field::OfTerm, Field::Nil, Field::Nil),
         7 => row_keeps(table, marks, r, Field::OfConstant, Field::Terms, Field::Nil),
         8 => row_keeps(table, marks, r, Field::Small, Field::Terms, Field::Nil),
