@@ -178,8 +178,8 @@ module _ (ws st₀ : List ℕ) (low d₀ r ty : ℕ) (st : List ℕ) (d at term 
         unfolding both
         other-type n = refuses (check-hole (checks enough ws) ws (binders st d) term at a-hole ∙ rw (← p .reads .a-is, ← i .b-is, ne-eqb _ _ n))
 
-        pub hole-asks : (now : ℕ) → now ≡ min low (occurrence ws term (x .b)) → ArgsAsk (ListAt (isType ws) ws) ws st now d (x .b) (u .a)
-        hole-asks now o = arguments-ask (ListAt (isType ws) ws) (u .a) now (rw (i .a-is, p .reads .a-is) (context-at ws _ (hole-at ws term (p .asks .term) a-hole))) (omega arith)
+        pub hole-asks : (now o : ℕ) → now ≡ min low o → ArgsAsk (ListAt (isType ws) ws) ws st now d (x .b) (u .a)
+        hole-asks now o e = arguments-ask (ListAt (isType ws) ws) (u .a) now (rw (i .a-is, p .reads .a-is) (context-at ws _ (hole-at ws term (p .asks .term) a-hole))) (omega arith)
 
         pub hole-told : (now low₁ : ℕ) (st₁ : List ℕ) (b : Bool) → u .b ≡ at → now ≡ min low (occurrence ws term (x .b))
             → Told d (filled ws (binders st d) (x .b) (u .a)) (among-terms ws (x .b)) st now st₁ low₁ b
