@@ -21,10 +21,6 @@ pub record Placed (ok : ℕ → Bool) (ws : List ℕ) (r : ℕ) : Type 0 where
   pub low : r < top
   pub kind : ok r ≡ true
 
--- r is a record
-abbrev pub RecordAt : List ℕ → ℕ → Type 0
-RecordAt ws r = Placed (λ x. true) ws r
-
 -- r is a type
 abbrev pub TypeAt : List ℕ → ℕ → Type 0
 TypeAt ws r = Placed (isType ws) ws r

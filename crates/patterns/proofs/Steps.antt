@@ -9,9 +9,9 @@ use lib.ListN.{length}
 use Rattle.table.specs.declared.Record.{Record}
 use Rattle.table.specs.Reading.{IsRecord}
 use Rattle.rules.specs.Lists.{both, either, all, any, among, distinct}
-use Rattle.rules.specs.Words.{NONE, VA, tag, fieldA, fieldB, has, isTerm, elements, bare}
+use Rattle.rules.specs.Words.{NONE, VA, tag, fieldA, has, isTerm, elements, bare}
 use Rattle.laws.specs.Lists.{size, elements-none}
-use Rattle.laws.specs.Places.{ListAt, CellAt, placed-inside, term-cell}
+use Rattle.laws.specs.Places.{ListAt, placed-inside, term-cell}
 use Rattle.patterns.specs.Occurrences.{different, occurrence}
 
 -- v is among the variables that list l names

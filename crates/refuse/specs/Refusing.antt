@@ -21,8 +21,7 @@ use Rattle.typing.specs.declared.Judged.{Judged}
 use Rattle.typing.specs.declared.Judged.the-variants.{Fine, IllTyped, NoPattern}
 use Rattle.typing.specs.Judging.{judged}
 use Rattle.rules.specs.Solve.{Refusal as Refuses, admitted, refused, refusal}
-use Rattle.laws.specs.Sound.{broken-none}
-use Rattle.laws.specs.Members.{Legal}
+use Rattle.laws.specs.Members.{Legal, broken-legal}
 use Rattle.refuse.specs.declared.Asked.{Asked}
 use Rattle.refuse.specs.declared.Asked.the-variants.{Solving, Record as Asking}
 use Rattle.refuse.specs.declared.Refusal.{Refusal}
@@ -116,7 +115,7 @@ pub record Searched (ws : List ℕ) (n : ℕ) (x : Found) : Type 0 where
 
 module _ (ws : List ℕ) (n : ℕ) (x : Found) (h : Searched ws n x) where
   pub legal : x ≡ Nowhere → Legal ws n
-  legal z = record { inside = h .inside; few = h .few; sound = broken-none ws n (sym (h .found) ∙ z) }
+  legal z = broken-legal ws n (h .few, h .inside) (sym (h .found) ∙ z)
 
   pub broken-at : (b : Bool) (p : ℕ) → x ≡ At p → sound b ws n ≡ refused 5 p
   unfolding sound

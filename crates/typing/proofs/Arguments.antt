@@ -1,6 +1,6 @@
 -- An argument list, turn by turn: what is left of it and of what it is held to, after the first arguments have passed.
 use Prim.Native.Nat.{ℕ, _+_, _*_, _<_, _≤_, min}
-use mathlib.Core.Path.{_≡_, refl, sym, ap, _∙_}
+use mathlib.Core.Path.{_≡_, refl, sym, _∙_}
 use mathlib.Core.List.{List, [], _∷_}
 use mathlib.Core.Bool.{Bool, true, false, not}
 use native.Mathlib.Omega.{arith}
@@ -11,8 +11,8 @@ use lib.Dec.{eqb}
 use Rattle.table.specs.declared.Record.{Record}
 use Rattle.table.specs.Reading.{IsRecord}
 use Rattle.rules.specs.Lists.{both, each, enough}
-use Rattle.rules.specs.Words.{NONE, AR, tag, fieldA, fieldB, isType, isTerm, elements}
-use Rattle.rules.specs.Typing.{domains, fills, checks}
+use Rattle.rules.specs.Words.{NONE, AR, tag, isType, isTerm}
+use Rattle.rules.specs.Typing.{fills, checks}
 use Rattle.rules.specs.Pattern.{offence}
 use Rattle.laws.specs.Tests.{false-true}
 use Rattle.laws.specs.Lists.{size, size-real, elements-none}

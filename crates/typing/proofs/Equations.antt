@@ -9,7 +9,7 @@ use borrow.Author.Tests.{ne-eqb, not-false}
 use lib.ListN.{length}
 use Rattle.table.specs.declared.Record.{Record}
 use Rattle.table.specs.Reading.{IsRecord}
-use Rattle.rules.specs.declared.Found.the-variants.{At, Nowhere}
+use Rattle.rules.specs.declared.Found.the-variants.{Nowhere}
 use Rattle.rules.specs.Lists.{both, those, from, below, least, enough}
 use Rattle.rules.specs.Words.{NONE, EQ, tag, fieldA, fieldB, has}
 use Rattle.rules.specs.Typing.{checks, typed, ill-typed}
@@ -18,7 +18,7 @@ use Rattle.laws.specs.Tests.{false-true}
 use Rattle.laws.specs.Sound.{equation-fields}
 use Rattle.laws.specs.Members.{none}
 use Rattle.laws.specs.Search.{ahead, ahead-start, ahead-on, ahead-stop, ahead-end}
-use Rattle.laws.specs.Places.{TypeAt, TermAt, Sides, sides-at}
+use Rattle.laws.specs.Places.{TermAt, Sides, sides-at}
 use Rattle.typing.specs.declared.Judged.the-variants.{Fine, IllTyped, NoPattern}
 use Rattle.typing.specs.Stack.{binders}
 use Rattle.typing.specs.Offences.{sides, reached, still}

@@ -1,12 +1,12 @@
 -- Offending occurrences in a term and in a list of terms.
 use Prim.Native.Nat.{ℕ, _≤_, min}
-use mathlib.Core.Path.{_≡_, sym, _∙_}
-use mathlib.Core.List.{List, [], _∷_, map}
+use mathlib.Core.Path.{_≡_, _∙_}
+use mathlib.Core.List.{List, [], _∷_}
 use mathlib.Core.Bool.{Bool, true, false}
 use native.Mathlib.Omega.{arith}
 use borrow.Author.Tests.{eqb-true}
-use Rattle.rules.specs.Lists.{both, least, enough}
-use Rattle.rules.specs.Words.{NONE, LA, CA, VA, HA, tag, fieldA, fieldB, has, isTerm, elements, arguments, variables, bare}
+use Rattle.rules.specs.Lists.{least, enough}
+use Rattle.rules.specs.Words.{NONE, LA, CA, VA, HA, tag, fieldA, fieldB, has, isTerm, arguments, variables, bare}
 use Rattle.rules.specs.Pattern.{pattern, offenceIn, offence}
 use Rattle.laws.specs.Lists.{elements-none}
 use Rattle.laws.specs.Tests.{both-true}

@@ -19,7 +19,7 @@ use Rattle.laws.specs.Lists.{size}
 use Rattle.laws.specs.Members.{more, every-at}
 use Rattle.laws.specs.Forms.{is-lambda, is-constant, is-variable, is-hole, term-of, check-lambda, check-constant, check-variable, check-hole}
 use Rattle.laws.specs.Unrolled.{checks-unrolled}
-use Rattle.laws.specs.Places.{TypeAt, TermAt, ListAt, placed-inside, placed-few, domain-at, result-at, body-at, arguments-at, constant-at, constant-inside, hole-at, context-at}
+use Rattle.laws.specs.Places.{TypeAt, ListAt, placed-inside, placed-few, domain-at, result-at, body-at, arguments-at, constant-at, constant-inside, hole-at, context-at}
 use Rattle.patterns.specs.Occurrences.{occurrence}
 use Rattle.typing.specs.Stack.{binders, typeOf, binders-push, binders-pop}
 use Rattle.typing.specs.Offences.{among-terms}

@@ -1,9 +1,7 @@
 -- `typing::check_args`, `typing::check_fills` and `typing::check_term` meet their contracts.
 use borrow.Author.Needs.{needs}
-use mathlib.Core.Path.{sym, _∙_}
 use native.Mathlib.Omega.{arith}
-use lib.ListN.{length-set}
-use Prim.Native.Nat.{ℕ, _<_, _≤_, _+_}
+use Prim.Native.Nat.{ℕ, _<_, _+_}
 use Rattle.rules.specs.Words.{isType}
 use Rattle.laws.specs.Lists.{size}
 use Rattle.laws.specs.Places.{TypeAt, ListAt, placed-inside}
