@@ -18,6 +18,11 @@ both-true true false e = absurd (false-true e)
 both-true false true e = absurd (false-true e)
 both-true false false e = absurd (false-true e)
 
+pub both-no : (a : Bool) → both a false ≡ false
+unfolding both
+both-no true = refl
+both-no false = refl
+
 pub either-true : (a b : Bool) → either a b ≡ true → (a ≡ true) ⊎ (b ≡ true)
 unfolding either
 either-true true b e = inl refl

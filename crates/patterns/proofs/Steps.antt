@@ -10,6 +10,7 @@ use Rattle.table.specs.declared.Record.{Record}
 use Rattle.table.specs.Reading.{IsRecord}
 use Rattle.rules.specs.Lists.{both, either, all, any, among, distinct}
 use Rattle.rules.specs.Words.{NONE, VA, tag, fieldA, has, isTerm, elements, bare}
+use Rattle.laws.specs.Tests.{both-no}
 use Rattle.laws.specs.Lists.{size, elements-none}
 use Rattle.laws.specs.Places.{ListAt, placed-inside, term-cell}
 use Rattle.patterns.specs.Occurrences.{different, occurrence}
@@ -61,11 +62,6 @@ module _ (ws : List ℕ) (v whole list : ℕ) (p : Left ws (Names ws v) whole li
     named-on n = left-rest ws (Names ws v) whole list p z c e (rw (term-cell ws list (p .rest) z .reads, ← e .a-is, ← i .a-is, ne-eqb _ _ n, ← e .b-is))
 
 -- Different bare variables
-
-both-no : (a : Bool) → both a false ≡ false
-unfolding both
-both-no true = refl
-both-no false = refl
 
 module _ (ws : List ℕ) (whole list : ℕ) (p : Left ws (different ws) whole list) where
   pub different-end : list ≡ NONE → true ≡ different ws whole

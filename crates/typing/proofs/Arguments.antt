@@ -14,7 +14,7 @@ use Rattle.rules.specs.Lists.{both, each, enough}
 use Rattle.rules.specs.Words.{NONE, AR, tag, isType, isTerm}
 use Rattle.rules.specs.Typing.{fills, checks}
 use Rattle.rules.specs.Pattern.{offence}
-use Rattle.laws.specs.Tests.{false-true}
+use Rattle.laws.specs.Tests.{false-true, both-no}
 use Rattle.laws.specs.Lists.{size, size-real, elements-none}
 use Rattle.laws.specs.Places.{TypeAt, ListAt, placed-inside, domain-at, result-at, term-cell, type-cell}
 use Rattle.typing.specs.declared.Final.{Final}
@@ -102,11 +102,6 @@ module _ (Held : ℕ → Type 0) (so : ℕ → ℕ → Bool) (ws st₀ : List �
             }
 
 -- Held to a head's type
-
-both-no : (a : Bool) → both a false ≡ false
-unfolding both
-both-no true = refl
-both-no false = refl
 
 both-yes : (a : Bool) → both a true ≡ a
 unfolding both

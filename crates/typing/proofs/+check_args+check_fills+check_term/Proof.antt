@@ -91,144 +91,6 @@ check-term-Inv-loop table stack₀ low depth r ty d₀ at₀ term₀ x₀ stack 
 abbrev check-term-μ-loop : check-term-lts.MeasureT-loop
 check-term-μ-loop table stack₀ low depth r ty d₀ at₀ term₀ x₀ stack d at term x = term
 
-check-args-loop-holds : (t : ℕ) → check-args-lts.Need-loop-holds (check-args-calls t) (check-args-at t) check-args.Post check-args-Inv-loop check-args-μ-loop
-check-args-loop-holds t c = search passed-none
-
-check-args-read-requires : (t : ℕ) → check-args-lts.Need-read-requires (check-args-calls t) (check-args-at t) check-args.Post check-args-Inv-loop check-args-μ-loop
-check-args-read-requires t c κs = search type-of-head-inside
-
-check-args-returns : (t : ℕ) → check-args-lts.Need-returns (check-args-calls t) (check-args-at t) check-args.Post check-args-Inv-loop check-args-μ-loop
-check-args-returns t c = search too-many
-
-check-args-read-requires-2 : (t : ℕ) → check-args-lts.Need-read-requires-2 (check-args-calls t) (check-args-at t) check-args.Post check-args-Inv-loop check-args-μ-loop
-check-args-read-requires-2 t c κs = search cell-inside
-
-check-args-check-term-requires : (t : ℕ) → check-args-lts.Need-check-term-requires (check-args-calls t) (check-args-at t) check-args.Post check-args-Inv-loop check-args-μ-loop
-check-args-check-term-requires t c κs = (search element-less, search (element-asks, domain-type))
-
-check-args-returns-2 : (t : ℕ) → check-args-lts.Need-returns-2 (check-args-calls t) (check-args-at t) check-args.Post check-args-Inv-loop check-args-μ-loop
-check-args-returns-2 t c = search argument-fails
-
-check-args-loop-less : (t : ℕ) → check-args-lts.Need-loop-less (check-args-calls t) (check-args-at t) check-args.Post check-args-Inv-loop check-args-μ-loop
-check-args-loop-less t c = search rest-less
-
-check-args-loop-again : (t : ℕ) → check-args-lts.Need-loop-again (check-args-calls t) (check-args-at t) check-args.Post check-args-Inv-loop check-args-μ-loop
-check-args-loop-again t c = search argument-checks
-
-check-args-final-type-requires : (t : ℕ) → check-args-lts.Need-final-type-requires (check-args-calls t) (check-args-at t) check-args.Post check-args-Inv-loop check-args-μ-loop
-check-args-final-type-requires t c κs = c .before .loop .inv .held
-
-check-args-returns-3 : (t : ℕ) → check-args-lts.Need-returns-3 (check-args-calls t) (check-args-at t) check-args.Post check-args-Inv-loop check-args-μ-loop
-check-args-returns-3 t c = search too-few
-
-check-args-returns-4 : (t : ℕ) → check-args-lts.Need-returns-4 (check-args-calls t) (check-args-at t) check-args.Post check-args-Inv-loop check-args-μ-loop
-check-args-returns-4 t c = search arguments-end
-
-check-fills-loop-holds : (t : ℕ) → check-fills-lts.Need-loop-holds (check-fills-calls t) (check-fills-at t) check-fills.Post check-fills-Inv-loop check-fills-μ-loop
-check-fills-loop-holds t c = search passed-none
-
-check-fills-returns : (t : ℕ) → check-fills-lts.Need-returns (check-fills-calls t) (check-fills-at t) check-fills.Post check-fills-Inv-loop check-fills-μ-loop
-check-fills-returns t c = search context-short
-
-check-fills-read-requires : (t : ℕ) → check-fills-lts.Need-read-requires (check-fills-calls t) (check-fills-at t) check-fills.Post check-fills-Inv-loop check-fills-μ-loop
-check-fills-read-requires t c κs = search context-inside
-
-check-fills-read-requires-2 : (t : ℕ) → check-fills-lts.Need-read-requires-2 (check-fills-calls t) (check-fills-at t) check-fills.Post check-fills-Inv-loop check-fills-μ-loop
-check-fills-read-requires-2 t c κs = search cell-inside
-
-check-fills-names-requires : (t : ℕ) → check-fills-lts.Need-names-requires (check-fills-calls t) (check-fills-at t) check-fills.Post check-fills-Inv-loop check-fills-μ-loop
-check-fills-names-requires t c κs = (let room = c .before .before .before .before .before .loop .inv .asks .room in let long = c .before .before .before .before .before .loop .inv .same-length in omega arith, search element-inside)
-
-check-fills-check-term-requires : (t : ℕ) → check-fills-lts.Need-check-term-requires (check-fills-calls t) (check-fills-at t) check-fills.Post check-fills-Inv-loop check-fills-μ-loop
-check-fills-check-term-requires t c κs = (search element-less, search (element-asks, context-type))
-
-check-fills-returns-2 : (t : ℕ) → check-fills-lts.Need-returns-2 (check-fills-calls t) (check-fills-at t) check-fills.Post check-fills-Inv-loop check-fills-μ-loop
-check-fills-returns-2 t c = search filling-fails
-
-check-fills-loop-less : (t : ℕ) → check-fills-lts.Need-loop-less (check-fills-calls t) (check-fills-at t) check-fills.Post check-fills-Inv-loop check-fills-μ-loop
-check-fills-loop-less t c = search rest-less
-
-check-fills-loop-again : (t : ℕ) → check-fills-lts.Need-loop-again (check-fills-calls t) (check-fills-at t) check-fills.Post check-fills-Inv-loop check-fills-μ-loop
-check-fills-loop-again t c = search filling-checks
-
-check-fills-loop-less-2 : (t : ℕ) → check-fills-lts.Need-loop-less-2 (check-fills-calls t) (check-fills-at t) check-fills.Post check-fills-Inv-loop check-fills-μ-loop
-check-fills-loop-less-2 t c = search rest-less
-
-check-fills-loop-again-2 : (t : ℕ) → check-fills-lts.Need-loop-again-2 (check-fills-calls t) (check-fills-at t) check-fills.Post check-fills-Inv-loop check-fills-μ-loop
-check-fills-loop-again-2 t c = search bare-fills
-
-check-fills-returns-3 : (t : ℕ) → check-fills-lts.Need-returns-3 (check-fills-calls t) (check-fills-at t) check-fills.Post check-fills-Inv-loop check-fills-μ-loop
-check-fills-returns-3 t c = search context-ends
-
-check-term-read-requires : (t : ℕ) → check-term-lts.Need-read-requires (check-term-calls t) (check-term-at t) check-term.Post check-term-Inv-loop check-term-μ-loop
-check-term-read-requires t c κs = placed-inside _ _ _ (c .before .before .pre .1 .term)
-
-check-term-loop-holds : (t : ℕ) → check-term-lts.Need-loop-holds (check-term-calls t) (check-term-at t) check-term.Post check-term-Inv-loop check-term-μ-loop
-check-term-loop-holds t c = search under-none
-
-check-term-read-requires-2 : (t : ℕ) → check-term-lts.Need-read-requires-2 (check-term-calls t) (check-term-at t) check-term.Post check-term-Inv-loop check-term-μ-loop
-check-term-read-requires-2 t c κs = search type-inside
-
-check-term-returns : (t : ℕ) → check-term-lts.Need-returns (check-term-calls t) (check-term-at t) check-term.Post check-term-Inv-loop check-term-μ-loop
-check-term-returns t c = search no-arrow
-
-check-term-cast-stack : (t : ℕ) → check-term-lts.Need-cast-stack (check-term-calls t) (check-term-at t) check-term.Post check-term-Inv-loop check-term-μ-loop
-check-term-cast-stack t c = let few : c .before .before .before .read2 .result .a < 4096 = search domain-few in omega arith
-
-check-term-mul-stack : (t : ℕ) → check-term-lts.Need-mul-stack (check-term-calls t) (check-term-at t) check-term.Post check-term-Inv-loop check-term-μ-loop
-check-term-mul-stack t c = let room = c .before .before .before .before .before .before .loop .inv .asks .room in omega arith
-
-check-term-slice-write-stack : (t : ℕ) → check-term-lts.Need-slice-write-stack (check-term-calls t) (check-term-at t) check-term.Post check-term-Inv-loop check-term-μ-loop
-check-term-slice-write-stack t c = search room-left
-
-check-term-add-d : (t : ℕ) → check-term-lts.Need-add-d (check-term-calls t) (check-term-at t) check-term.Post check-term-Inv-loop check-term-μ-loop
-check-term-add-d t c = let room = c .before .before .before .before .before .before .loop .inv .asks .room in omega arith
-
-check-term-read-requires-3 : (t : ℕ) → check-term-lts.Need-read-requires-3 (check-term-calls t) (check-term-at t) check-term.Post check-term-Inv-loop check-term-μ-loop
-check-term-read-requires-3 t c κs = search body-inside
-
-check-term-loop-less : (t : ℕ) → check-term-lts.Need-loop-less (check-term-calls t) (check-term-at t) check-term.Post check-term-Inv-loop check-term-μ-loop
-check-term-loop-less t c = search body-less
-
-check-term-loop-again : (t : ℕ) → check-term-lts.Need-loop-again (check-term-calls t) (check-term-at t) check-term.Post check-term-Inv-loop check-term-μ-loop
-check-term-loop-again t c = search under-more
-
-check-term-read-requires-4 : (t : ℕ) → check-term-lts.Need-read-requires-4 (check-term-calls t) (check-term-at t) check-term.Post check-term-Inv-loop check-term-μ-loop
-check-term-read-requires-4 t c κs = search head-inside
-
-check-term-check-args-requires : (t : ℕ) → check-term-lts.Need-check-args-requires (check-term-calls t) (check-term-at t) check-term.Post check-term-Inv-loop check-term-μ-loop
-check-term-check-args-requires t c κs = (search arguments-less, search constant-asks)
-
-check-term-returns-2 : (t : ℕ) → check-term-lts.Need-returns-2 (check-term-calls t) (check-term-at t) check-term.Post check-term-Inv-loop check-term-μ-loop
-check-term-returns-2 t c = search constant-told
-
-check-term-type-of-requires : (t : ℕ) → check-term-lts.Need-type-of-requires (check-term-calls t) (check-term-at t) check-term.Post check-term-Inv-loop check-term-μ-loop
-check-term-type-of-requires t c κs = let room = c .before .before .before .before .before .before .before .loop .inv .asks .room in omega arith
-
-check-term-returns-3 : (t : ℕ) → check-term-lts.Need-returns-3 (check-term-calls t) (check-term-at t) check-term.Post check-term-Inv-loop check-term-μ-loop
-check-term-returns-3 t c = search variable-free
-
-check-term-check-args-requires-2 : (t : ℕ) → check-term-lts.Need-check-args-requires-2 (check-term-calls t) (check-term-at t) check-term.Post check-term-Inv-loop check-term-μ-loop
-check-term-check-args-requires-2 t c κs = (search arguments-less, search variable-asks)
-
-check-term-returns-4 : (t : ℕ) → check-term-lts.Need-returns-4 (check-term-calls t) (check-term-at t) check-term.Post check-term-Inv-loop check-term-μ-loop
-check-term-returns-4 t c = search variable-told
-
-check-term-read-requires-5 : (t : ℕ) → check-term-lts.Need-read-requires-5 (check-term-calls t) (check-term-at t) check-term.Post check-term-Inv-loop check-term-μ-loop
-check-term-read-requires-5 t c κs = search hole-inside
-
-check-term-returns-5 : (t : ℕ) → check-term-lts.Need-returns-5 (check-term-calls t) (check-term-at t) check-term.Post check-term-Inv-loop check-term-μ-loop
-check-term-returns-5 t c = search other-type
-
-check-term-offended-requires : (t : ℕ) → check-term-lts.Need-offended-requires (check-term-calls t) (check-term-at t) check-term.Post check-term-Inv-loop check-term-μ-loop
-check-term-offended-requires t c κs = search arguments-list
-
-check-term-check-fills-requires : (t : ℕ) → check-term-lts.Need-check-fills-requires (check-term-calls t) (check-term-at t) check-term.Post check-term-Inv-loop check-term-μ-loop
-check-term-check-fills-requires t c κs = (search arguments-less, search hole-asks)
-
-check-term-returns-6 : (t : ℕ) → check-term-lts.Need-returns-6 (check-term-calls t) (check-term-at t) check-term.Post check-term-Inv-loop check-term-μ-loop
-check-term-returns-6 t c = search hole-told
-
 pub +check-args+check-fills+check-term-spec : {M : Type 1} → statement M
 +check-args+check-fills+check-term-spec =
     close μ-check-args μ-check-fills μ-check-term (λ t. check-args-lts.spec (check-args-calls t)
@@ -236,74 +98,74 @@ pub +check-args+check-fills+check-term-spec : {M : Type 1} → statement M
     check-args.Post
     check-args-Inv-loop
     check-args-μ-loop
-    (check-args-loop-holds t)
-    (check-args-read-requires t)
+    (λ c. search passed-none)
+    (λ c κs. search type-of-head-inside)
     (λ c. search needs)
-    (check-args-returns t)
-    (check-args-read-requires-2 t)
-    (check-args-check-term-requires t)
+    (λ c. search too-many)
+    (λ c κs. search cell-inside)
+    (λ c κs. (search element-less, search (element-asks, domain-type)))
     (λ c. search needs)
-    (check-args-returns-2 t)
-    (check-args-loop-less t)
-    (check-args-loop-again t)
-    (check-args-final-type-requires t)
+    (λ c. search argument-fails)
+    (λ c. search rest-less)
+    (λ c. search argument-checks)
+    (λ c κs. c .before .loop .inv .held)
     (λ c. search needs)
-    (check-args-returns-3 t)
+    (λ c. search too-few)
     (λ c. search needs)
-    (check-args-returns-4 t))
+    (λ c. search arguments-end))
     (λ t. check-fills-lts.spec (check-fills-calls t)
     (check-fills-at t)
     check-fills.Post
     check-fills-Inv-loop
     check-fills-μ-loop
-    (check-fills-loop-holds t)
+    (λ c. search passed-none)
     (λ c. search needs)
-    (check-fills-returns t)
-    (check-fills-read-requires t)
-    (check-fills-read-requires-2 t)
-    (check-fills-names-requires t)
-    (check-fills-check-term-requires t)
+    (λ c. search context-short)
+    (λ c κs. search context-inside)
+    (λ c κs. search cell-inside)
+    (λ c κs. (let room = c .before .before .before .before .before .loop .inv .asks .room in let long = c .before .before .before .before .before .loop .inv .same-length in omega arith, search element-inside))
+    (λ c κs. (search element-less, search (element-asks, context-type)))
     (λ c. search needs)
-    (check-fills-returns-2 t)
-    (check-fills-loop-less t)
-    (check-fills-loop-again t)
-    (check-fills-loop-less-2 t)
-    (check-fills-loop-again-2 t)
+    (λ c. search filling-fails)
+    (λ c. search rest-less)
+    (λ c. search filling-checks)
+    (λ c. search rest-less)
+    (λ c. search bare-fills)
     (λ c. search needs)
-    (check-fills-returns-3 t))
+    (λ c. search context-ends))
     λ t. check-term-lts.spec (check-term-calls t)
     (check-term-at t)
     check-term.Post
     check-term-Inv-loop
     check-term-μ-loop
-    (check-term-read-requires t)
-    (check-term-loop-holds t)
-    (check-term-read-requires-2 t)
+    (λ c κs. placed-inside _ _ _ (c .before .before .pre .1 .term))
+    (λ c. search under-none)
+    (λ c κs. search type-inside)
     (λ c. search needs)
-    (check-term-returns t)
-    (check-term-cast-stack t)
-    (check-term-mul-stack t)
-    (check-term-slice-write-stack t)
-    (check-term-add-d t)
-    (check-term-read-requires-3 t)
-    (check-term-loop-less t)
-    (check-term-loop-again t)
-    (check-term-read-requires-4 t)
-    (check-term-check-args-requires t)
+    (λ c. search no-arrow)
+    (λ c. let few : c .before .before .before .read2 .result .a < 4096 = search domain-few in omega arith)
+    (λ c. let room = c .before .before .before .before .before .before .loop .inv .asks .room in omega arith)
+    (λ c. search room-left)
+    (λ c. let room = c .before .before .before .before .before .before .loop .inv .asks .room in omega arith)
+    (λ c κs. search body-inside)
+    (λ c. search body-less)
+    (λ c. search under-more)
+    (λ c κs. search head-inside)
+    (λ c κs. (search arguments-less, search constant-asks))
     (λ c. search needs)
-    (check-term-returns-2 t)
-    (check-term-type-of-requires t)
+    (λ c. search constant-told)
+    (λ c κs. let room = c .before .before .before .before .before .before .before .loop .inv .asks .room in omega arith)
     (λ c. search needs)
     (λ c. search needs)
     (λ c. search needs)
-    (check-term-returns-3 t)
-    (check-term-check-args-requires-2 t)
+    (λ c. search variable-free)
+    (λ c κs. (search arguments-less, search variable-asks))
     (λ c. search needs)
-    (check-term-returns-4 t)
-    (check-term-read-requires-5 t)
+    (λ c. search variable-told)
+    (λ c κs. search hole-inside)
     (λ c. search needs)
-    (check-term-returns-5 t)
-    (check-term-offended-requires t)
-    (check-term-check-fills-requires t)
+    (λ c. search other-type)
+    (λ c κs. search arguments-list)
+    (λ c κs. (search arguments-less, search hole-asks))
     (λ c. search needs)
-    (check-term-returns-6 t)
+    (λ c. search hole-told)
