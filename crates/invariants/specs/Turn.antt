@@ -9,7 +9,6 @@ use native.Mathlib.Nat.{le-refl}
 use lib.ListN.{length, length-append}
 use lib.Dec.{eqb, leb}
 use borrow.Author.Tests.{eqb-true, leb-true}
-use Rattle.rules.specs.declared.Failure.the-variants.{Clash}
 use Rattle.rules.specs.Lists.{both, either, enough}
 use Rattle.rules.specs.Words.{tag, fieldA, fieldB, LA, CA, VA, HA, has, elements, arguments, variables}
 use Rattle.rules.specs.Store.{Store, Out, goes, fail, _>>=_}
@@ -160,8 +159,8 @@ module _ (R C n l r : ℕ) (q : List Pair) (home : ℕ → ℕ) (s : Store) (h :
       go false false e f = rw (e, solveOne, f) (outside-refl R n s)
 
   pub meet-grows : Meets (meet R C q l r s)
-  unfolding meet fail sameHead
-  meet-grows = go₂ (either (has (s .words) l LA) (has (s .words) r LA)) refl
+  unfolding meet sameHead
+  meet-grows = go₂ (both (has (s .words) l LA) (has (s .words) r LA)) refl
     where
       go₄ : (x : Bool) → sameHead (s .words) HA l r ≡ x → Meets (elim x [ true ↦ sameHole R q l r s | false ↦ solveOne R l r s >>= (λ p. goes (p .0) (done q)) ])
       go₄ true e = same-hole (tagged (s .words) l HA (both-true _ _ e .0))
@@ -186,12 +185,8 @@ module _ (R C n l r : ℕ) (q : List Pair) (home : ℕ → ℕ) (s : Store) (h :
       go₃ true e = let a = applied (either-true _ _ e) in arguments-join (a .0) (a .1)
       go₃ false e = go₄ (sameHead (s .words) HA l r) refl
 
-      lambdas : (x : Bool) → both (has (s .words) l LA) (has (s .words) r LA) ≡ x → Meets (elim x [ true ↦ goes s (on (fieldA (s .words) l) (fieldA (s .words) r)) | false ↦ fail Clash s ])
-      lambdas true e = let p = both-true _ _ e in bodies (tagged (s .words) l LA (p .0)) (tagged (s .words) r LA (p .1))
-      lambdas false e = outside-refl R n s
-
-      go₂ : (x : Bool) → either (has (s .words) l LA) (has (s .words) r LA) ≡ x → Meets (meet R C q l r s)
-      go₂ true e = rw (e, meet) (lambdas (both (has (s .words) l LA) (has (s .words) r LA)) refl)
+      go₂ : (x : Bool) → both (has (s .words) l LA) (has (s .words) r LA) ≡ x → Meets (meet R C q l r s)
+      go₂ true e = let p = both-true _ _ e in rw (e, meet) (bodies (tagged (s .words) l LA (p .0)) (tagged (s .words) r LA (p .1)))
       go₂ false e = rw (e, meet) (go₃ (either (sameHead (s .words) CA l r) (sameHead (s .words) VA l r)) refl)
 
 -- the left sides of pairs are below R

@@ -17,6 +17,7 @@ use Rattle.invariants.specs.Floor.{Grown}
 use Rattle.invariants.specs.Copy.{Nobody}
 use Rattle.invariants.specs.Running.{Running, Stepped, ahead}
 use Rattle.invariants.specs.Turn.{step-grows}
+use Rattle.promise.specs.Known.{Known, known-step}
 use Rattle.rewrite.specs.Levels.{fuel}
 use Rattle.store.specs.Said.{store}
 use Rattle.queue.specs.Ring.{Some, view, view-none, Leaves, frontOf, left-view, left-fine}
@@ -102,7 +103,7 @@ module _ (R n cap : ℕ) (ws₀ ss₀ : List ℕ) (used₀ : ℕ) (q₀ : List �
               same-table = lw ∙ t .same-table;
               same-solutions = ls ∙ t .same-solutions;
               same-queue = t .same-queue;
-              stood = record { home = came u₁ (on l₁ r₁) on-is .home₁; running = went .running; ring = t .stood .ring };
+              stood = record { home = came u₁ (on l₁ r₁) on-is .home₁; running = went .running; known = known-step (t .stood .known) cap (s .said ∙ on-is); ring = t .stood .ring };
               leads = λ ws₂ ss₂ y h. t .leads ws₂ ss₂ y (onward u₁ (on l₁ r₁) y ws₂ ss₂ on-is (went .falls) h);
             })
 
@@ -126,6 +127,10 @@ module _ (R n cap : ℕ) (ws₀ ss₀ : List ℕ) (used₀ : ℕ) (q₀ : List �
           unfolding upcoming
           first = subst (λ (v : List Waiting). Running R cap n (came u₁ (done (view q₁ cap g₁)) done-is .home₁) (store ws₁ ss₁ u₁) v) (left-view q₁ cap g₁ g₂ v) (ended-so .running)
 
+          first-known : Known R (store ws₁ ss₁ u₁) ((frontOf q₁ g₁ .left, frontOf q₁ g₁ .right) ∷ view q₁ cap g₂)
+          unfolding upcoming
+          first-known = subst (Known R (store ws₁ ss₁ u₁)) (left-view q₁ cap g₁ g₂ v) (known-step (t .stood .known) cap (s .said ∙ done-is))
+
           less : ahead R cap u₁ ((frontOf q₁ g₁ .left, frontOf q₁ g₁ .right) ∷ view q₁ cap g₂) < now
           unfolding upcoming
           less = rw (left-view q₁ cap g₁ g₂ v) at (ended-so .falls)
@@ -140,7 +145,7 @@ module _ (R n cap : ℕ) (ws₀ ss₀ : List ℕ) (used₀ : ℕ) (q₀ : List �
                 same-table = lw ∙ t .same-table;
                 same-solutions = ls ∙ t .same-solutions;
                 same-queue = lq ∙ t .same-queue;
-                stood = record { home = came u₁ (done (view q₁ cap g₁)) done-is .home₁; running = first; ring = left-fine q₁ cap g₁ g₂ (done-some z) v };
+                stood = record { home = came u₁ (done (view q₁ cap g₁)) done-is .home₁; running = first; known = first-known; ring = left-fine q₁ cap g₁ g₂ (done-some z) v };
                 leads = λ ws₂ ss₂ y h. t .leads ws₂ ss₂ y (onward u₁ (done (view q₁ cap g₁)) y ws₂ ss₂ done-is (ended-so .falls) (rw (left-view q₁ cap g₁ g₂ v) h));
               }
 

@@ -8,6 +8,8 @@ use borrow.Author.Tests.{le-leb, lt-leb}
 use Rattle.rules.specs.declared.Failure.the-variants.{QueueFull}
 use Rattle.queue.specs.declared.Ring.{Ring}
 use Rattle.queue.specs.declared.Pair.{Pair}
+use Rattle.queue.specs.declared.Joined.{Joined}
+use Rattle.queue.specs.declared.Joined.the-variants.{Full, To}
 use Rattle.machine.specs.declared.Ran.{Ran}
 use Rattle.machine.specs.declared.Ran.the-variants.{Solved, Failed}
 use Rattle.rules.specs.Store.{fail, _>>=_}
@@ -15,8 +17,9 @@ use Rattle.rules.specs.Machine.{join, run, steps, equations, machine}
 use Rattle.invariants.specs.Running.{Running}
 use Rattle.invariants.specs.Falls.{steps-more}
 use Rattle.invariants.specs.Turn.{lefts-low}
+use Rattle.promise.specs.Known.{Known}
 use Rattle.store.specs.Said.{store}
-use Rattle.queue.specs.Ring.{Fine, Some, view, view-none, Joins, Leaves, frontOf, left-view, left-fine, noPair}
+use Rattle.queue.specs.Ring.{Fine, Some, view, view-none, Queued, Leaves, frontOf, left-view, left-fine, noPair}
 use Rattle.queue.specs.Equations.{Entering}
 use Rattle.step.specs.Stand.{Stood}
 use Rattle.machine.specs.Run.{ended, Runs, runs-none}
@@ -25,6 +28,7 @@ use Rattle.machine.specs.Run.{ended, Runs, runs-none}
 pub record Set (R n : ℕ) (ws ss : List ℕ) (used : ℕ) (q : List ℕ) (cap : ℕ) (g : Ring) : Type 0 where
   pub home : ℕ → ℕ
   pub running : Running R cap n home (store ws ss used) (view q cap g)
+  pub known : Known R (store ws ss used) (view q cap g)
   pub ring : Fine q cap g
 
 module _ (R n : ℕ) (ws ss : List ℕ) (used : ℕ) (q : List ℕ) (cap : ℕ) (g : Ring) where
@@ -37,7 +41,9 @@ module _ (R n : ℕ) (ws ss : List ℕ) (used : ℕ) (q : List ℕ) (cap : ℕ) 
 
     module _ (g₁ : Ring) (v : Leaves cap g g₁) where
       first : Stood R n ws ss used q cap g₁ (frontOf q g .left) (frontOf q g .right)
-      first = record { home = h .home; running = rw (left-view q cap g g₁ v) at (h .running); ring = left-fine q cap g g₁ set-some v }
+      first =
+          let e = left-view q cap g g₁ v in
+          record { home = h .home; running = rw e at (h .running); known = rw e at (h .known); ring = left-fine q cap g g₁ set-some v }
 
       pub set-stood : (f : Pair) → frontOf q g ≡ f → Stood R n ws ss used q cap g₁ (f .left) (f .right)
       set-stood f e = subst (λ (f : Pair). Stood R n ws ss used q cap g₁ (f .left) (f .right)) e first
@@ -55,26 +61,31 @@ pub record Started (R n : ℕ) (ws ss q : List ℕ) (cap : ℕ) : Type 0 where
   pub few : cap ≤ 1024
   pub home : ℕ → ℕ
   pub running : length (equations ws n) ≤ cap → Running R cap n home (store ws ss n) (equations ws n)
+  pub known : Known R (store ws ss n) (equations ws n)
 
-module _ (R n : ℕ) (ws ss q : List ℕ) (cap : ℕ) (h : Started R n ws ss q cap) (k : ℕ) (e : length (equations ws n) ≡ k) where
-  pub machine-full : cap < k → machine R cap n (store ws ss n) ≡ ended ws ss (Failed QueueFull)
+pub started-enters : (R n : ℕ) (ws ss q : List ℕ) (cap : ℕ) → Started R n ws ss q cap → Entering ws q cap n
+started-enters R n ws ss q cap h = record { inside = h .inside; low = h .low; room = h .room; few = h .few }
+
+module _ (R n : ℕ) (ws ss q : List ℕ) (cap : ℕ) (h : Started R n ws ss q cap) (q₁ : List ℕ) (x : Joined) (p : Queued q cap noPair (equations ws n) q₁ x) where
+  pub machine-full : x ≡ Full → machine R cap n (store ws ss n) ≡ ended ws ss (Failed QueueFull)
   unfolding machine join fail _>>=_
-  machine-full lt = let o : cap < 0 + length (equations ws n) = omega arith in rw (lt-leb _ _ o, join)
+  machine-full e = let f = p .full e in let o : cap < 0 + length (equations ws n) = omega arith in rw (lt-leb _ _ o, join)
 
-  pub started-enters : k ≤ cap → Entering ws q cap n
-  started-enters le = record { inside = h .inside; low = h .low; room = h .room; few = h .few; fits = omega arith }
-
-  module _ (q₁ : List ℕ) (g : Ring) (le : k ≤ cap) (j : Joins q cap noPair (equations ws n) q₁ g) where
+  module _ (g : Ring) (e : x ≡ To g) where
     seen : view q₁ cap g ≡ equations ws n
-    seen = let z = view-none q cap noPair refl in rw z at (j .seen)
+    seen = let z = view-none q cap noPair refl in rw z at (p .to g e .seen)
+
+    fits : length (equations ws n) ≤ cap
+    fits = let c = p .to g e .counted in let f = p .to g e .fine .count in omega arith
 
     pub started-set : Set R n ws ss n q₁ cap g
-    started-set = record { home = h .home; running = rw seen (h .running (omega arith)); ring = j .fine }
+    started-set = record { home = h .home; running = rw seen (h .running fits); known = rw seen (h .known); ring = p .to g e .fine }
 
-    pub machine-runs : (ws₁ ss₁ : List ℕ) (x : Ran) → Runs R cap (view q₁ cap g) ws ss n ws₁ ss₁ x → machine R cap n (store ws ss n) ≡ ended ws₁ ss₁ x
+    pub machine-runs : (ws₁ ss₁ : List ℕ) (y : Ran) → Runs R cap (view q₁ cap g) ws ss n ws₁ ss₁ y → machine R cap n (store ws ss n) ≡ ended ws₁ ss₁ y
     unfolding machine join _>>=_
-    machine-runs ws₁ ss₁ x p =
+    machine-runs ws₁ ss₁ y r =
+        let f = fits in
         let o : 0 + length (equations ws n) ≤ cap = omega arith in
-        let ru = h .running (omega arith) in
-        let p₁ : Runs R cap (equations ws n) ws ss n ws₁ ss₁ x = rw seen at p in
-        rw (le-leb _ _ o, join) (p₁ .run (steps R cap) (steps-more R cap n (equations ws n) (ru .few) (lefts-low R cap n (h .home) (store ws ss n) (equations ws n) ru)))
+        let ru = h .running f in
+        let r₁ : Runs R cap (equations ws n) ws ss n ws₁ ss₁ y = rw seen at r in
+        rw (le-leb _ _ o, join) (r₁ .run (steps R cap) (steps-more R cap n (equations ws n) (ru .few) (lefts-low R cap n (h .home) (store ws ss n) (equations ws n) ru)))

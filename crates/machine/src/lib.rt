@@ -1,6 +1,6 @@
 // The machine: all equations enter the queue, and pairs are taken until none waits.
+use queue::Joined;
 use queue::Ring;
-use queue::count_equations;
 use queue::enter_equations;
 use queue::leave;
 use queue::peek;
@@ -118,10 +118,8 @@ pub fn machine(
     requires { ⌜ Started room n (now table) (now solutions) (now queue) cap ⌝ }
     ensures { λ x. ⌜ machineOf room cap n (store (now (table .entry)) (now (solutions .entry)) n) ≡ ended (now (table .exit)) (now (solutions .exit)) x ⌝ }
 {
-    let count = count_equations(table, n);
-    if cap < count {
-        return Ran::Failed(Failure::QueueFull);
+    match enter_equations(table, queue, cap, n) {
+        Joined::Full => Ran::Failed(Failure::QueueFull),
+        Joined::To(ring) => run(table, solutions, queue, n, n, room, cap, ring),
     }
-    let ring = enter_equations(table, queue, cap, n);
-    run(table, solutions, queue, n, n, room, cap, ring)
 }

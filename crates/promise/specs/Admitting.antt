@@ -67,6 +67,12 @@ refusal-is ws ss n = go (either (ltb (records ws) n) (ltb (length ss) (records w
         rw (x, refusal, y, z, w)
         (admits (record { room = ltb-false _ _ (f .0); answers = ltb-false _ _ (f .1); sound = broken-none ws n y; typed = z; pattern = eqb-true _ _ w }))
 
+pub admitted-is : (ws ss : List ℕ) (n : ℕ) → refusal true ws ss n ≡ admitted → Admitted ws ss n
+admitted-is ws ss n e = go (rw e at (refusal-is ws ss n))
+  where
+    go : Refuses ws ss n admitted → Admitted ws ss n
+    go (admits a) = a
+
 -- those of k numbers from i on that pass
 module _ (ok : ℕ → Bool) (P : ℕ → Type 0) where
   pub those-each : (i k : ℕ) → ((j : ℕ) → i ≤ j → j < i + k → ok j ≡ true → P j) → AllL P (those ok (from i k))

@@ -53,7 +53,7 @@ module _ (S : ℕ → Option Ty) (R : ℕ) (D : Sig) (σ : Solutions) where
   not-hole ws r j x e f = rw (has-is ws r j HA e ∙ f)
 
   -- a solution in the scope of an occurrence's arguments
-  in-scope : {G : List Ty} {k : Kind} {h : ℕ} {xs : List ℕ} {u : Tree} {C : List Ty} {b : ℕ} → HasTy S D G (hol h xs) k → D h ≡ some (C, b) → HasTy S D C u (at (base b))
+  pub in-scope : {G : List Ty} {k : Kind} {h : ℕ} {xs : List ℕ} {u : Tree} {C : List Ty} {b : ℕ} → HasTy S D G (hol h xs) k → D h ≡ some (C, b) → HasTy S D C u (at (base b))
       → Scoped (length xs) u
   in-scope {xs = xs} {u} {C} d e t =
       let z = typed-holes S D d in

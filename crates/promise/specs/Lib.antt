@@ -21,6 +21,10 @@ pub mod Expanding  -- step 1
 pub mod Assigning  -- steps 4 and 5
 pub mod Meeting  -- steps 2 to 5: two sides meet
 pub mod Running  -- the machine runs
+pub mod Parts  -- the parts of a term that reads
+pub mod CopyKnown  -- what is known of a term that is copied
+pub mod WalkKnown  -- what is known of a term that is walked
+pub mod SideKnown  -- what is known of a side of a pair
 pub mod Readable  -- lists, types and holes of a sound table can be read
 pub mod Types  -- a type is one record
 pub mod Heads  -- the arguments that a head asks, and its final type
@@ -30,11 +34,13 @@ pub mod TableLaws  -- the functions of Table give what the readings say
 pub mod Declares  -- what a sound table declares can be read
 pub mod Admitting  -- a table is admitted exactly where its equations' sides are typed patterns
 pub mod Starting  -- where the machine starts
+pub mod Known  -- what is known of the waiting pairs along the run
 pub mod Levels  -- as many levels as there are records expand every solved hole
 pub mod Ending  -- the machine's end
 pub mod Solving  -- what the answers of solving mean
 pub mod Order  -- the order of the equations that come last does not matter
 pub mod Showing  -- what is written of a hole reads as the run's filling of it
+pub mod ShowKnown  -- what is known of a term that is shown, and of a hole
 pub mod Printing  -- what is printed of a record is its tree's notation
 pub mod Shown  -- what show's answer 0 means
 pub mod Theorems  -- DEMAND 3 PROVED

@@ -31,8 +31,8 @@ solveAs i j R l r s = elim (eqb i HA) [ true ↦ assign R l r s | false ↦ elim
 
 meetAs : (i j a b : ℕ) → ℕ → ℕ → List Pair → ℕ → ℕ → Store → Out Next
 meetAs i j a b R C q l r s =
-    elim (either (eqb i LA) (eqb j LA)) [
-      | true ↦ elim (both (eqb i LA) (eqb j LA)) [ true ↦ goes s (on a b) | false ↦ fail Clash s ]
+    elim (both (eqb i LA) (eqb j LA)) [
+      | true ↦ goes s (on a b)
       | false ↦ elim (either (both (eqb i CA) (both (eqb j CA) (eqb a b))) (both (eqb i VA) (both (eqb j VA) (eqb a b)))) [
         | true ↦ do
           (s₁, q₁) ← join C q (zip (arguments (s .words) l) (arguments (s .words) r)) s
@@ -69,6 +69,13 @@ no-lam-hol d e =
     let z : _≡_ {A = ℕ} 0 1 = cc in
     omega arith
 
+-- the arguments of a typed application
+pub con-args : {S : ℕ → Option Ty} {D : Sig} {G : List Ty} {k : Kind} {c : ℕ} {a : Tree} → HasTy S D G (con c a) k → (A : Ty) × (b : ℕ) × (S c ≡ some A) × HasTy S D G a (args A b)
+con-args (t-con {A = A} {b = b} e d) = (A, b, e, d)
+
+pub var-args : {S : ℕ → Option Ty} {D : Sig} {G : List Ty} {k : Kind} {v : ℕ} {a : Tree} → HasTy S D G (var v a) k → (A : Ty) × (b : ℕ) × (At G v A) × HasTy S D G a (args A b)
+var-args (t-var {A = A} {b = b} e d) = (A, b, e, d)
+
 module _ (S : ℕ → Option Ty) (R C : ℕ) where
   -- the argument pairs join the queue
   joined : (D : Sig) (σ : Solutions) (ps qs rs : Pairs) (q new : List Pair) (s : Store) → Holds R s D σ → PairsRead (s .words) (s .used) q ps
@@ -100,12 +107,6 @@ module _ (S : ℕ → Option Ty) (R C : ℕ) where
 
   con-var : (c v : ℕ) → h-con c ≢ h-var v
   con-var c v e = let z : _≡_ {A = ℕ} 0 1 = cc in omega arith
-
-  con-args : {D : Sig} {G : List Ty} {k : Kind} {c : ℕ} {a : Tree} → HasTy S D G (con c a) k → (A : Ty) × (b : ℕ) × (S c ≡ some A) × HasTy S D G a (args A b)
-  con-args (t-con {A = A} {b = b} e d) = (A, b, e, d)
-
-  var-args : {D : Sig} {G : List Ty} {k : Kind} {v : ℕ} {a : Tree} → HasTy S D G (var v a) k → (A : Ty) × (b : ℕ) × (At G v A) × HasTy S D G a (args A b)
-  var-args (t-var {A = A} {b = b} e d) = (A, b, e, d)
 
   module _ (D : Sig) (σ : Solutions) (ps : Pairs) (q : List Pair) (l r : ℕ) (s : Store) (i : Holds R s D σ) (w : PairsRead (s .words) (s .used) q ps) where
     abbrev Meets : Tree → Tree → Type 0
@@ -195,12 +196,12 @@ module _ (S : ℕ → Option Ty) (R C : ℕ) where
         (quiet S D σ ((lam a, lam b) ∷ ps) ((a, b) ∷ ps) q s (on _ _) i (move S move-lam)
         (p-cons (reads-later same-refl (lower h) p) (reads-later same-refl (lower k) o) w))
     meet-ends (lam a) (con c b) g (r-lam h e x p) (r-con k f y u v o) m n =
-        rw (meet-as LA CA _ _ R C q l r s e f x y) (fail-ends s Clash (clashes (lam a) (con c b) tt tt (lam-con c)))
+        rw (meet-as LA CA _ _ R C q l r s e f x y) (clash-then D σ ((lam a, con c b) ∷ ps) q s (clashes (lam a) (con c b) tt tt (lam-con c)))
     meet-ends (lam a) (var c b) g (r-lam h e x p) (r-var k f y u v o) m n =
-        rw (meet-as LA VA _ _ R C q l r s e f x y) (fail-ends s Clash (clashes (lam a) (var c b) tt tt (lam-var c)))
+        rw (meet-as LA VA _ _ R C q l r s e f x y) (clash-then D σ ((lam a, var c b) ∷ ps) q s (clashes (lam a) (var c b) tt tt (lam-var c)))
     meet-ends (lam a) (hol c ys) g p o m n = absurd (no-lam-hol (g .1 .0 .2) (g .1 .0 .3))
     meet-ends (con c a) (lam b) g (r-con h e x u v p) (r-lam k f y o) m n =
-        rw (meet-as CA LA _ _ R C q l r s e f x y) (fail-ends s Clash (clashes (con c a) (lam b) tt tt (λ z. lam-con c (sym z))))
+        rw (meet-as CA LA _ _ R C q l r s e f x y) (clash-then D σ ((con c a, lam b) ∷ ps) q s (clashes (con c a) (lam b) tt tt (λ z. lam-con c (sym z))))
     meet-ends (con c a) (con d b) g (r-con {xs = xs} h e x u v p) (r-con {xs = ys} k f y u′ v′ o) m n =
         con-meet c d a b xs ys g e f x y (listed-arguments l u v) (listed-arguments r u′ v′) (reads-later same-refl (lower h) p) (reads-later same-refl (lower k) o)
     meet-ends (con c a) (var d b) g (r-con h e x u v p) (r-var k f y u′ v′ o) m n =
@@ -211,7 +212,7 @@ module _ (S : ℕ → Option Ty) (R C : ℕ) where
         (swapped S R D σ (con c a) (hol d ys) ps ps s (assign R r l s) g
         (λ j. assign-ends S R D σ ps d ys (con c a) r l s i j y (listed-variables r u′ v′ o) (r-con h e x u v p) n tt)))
     meet-ends (var c a) (lam b) g (r-var h e x u v p) (r-lam k f y o) m n =
-        rw (meet-as VA LA _ _ R C q l r s e f x y) (fail-ends s Clash (clashes (var c a) (lam b) tt tt (λ z. lam-var c (sym z))))
+        rw (meet-as VA LA _ _ R C q l r s e f x y) (clash-then D σ ((var c a, lam b) ∷ ps) q s (clashes (var c a) (lam b) tt tt (λ z. lam-var c (sym z))))
     meet-ends (var c a) (con d b) g (r-var h e x u v p) (r-con k f y u′ v′ o) m n =
         rw (meet-as VA CA _ _ R C q l r s e f x y) (clash-then D σ ((var c a, con d b) ∷ ps) q s (clashes (var c a) (con d b) tt tt (λ z. con-var d c (sym z))))
     meet-ends (var c a) (var d b) g (r-var {xs = xs} h e x u v p) (r-var {xs = ys} k f y u′ v′ o) m n =

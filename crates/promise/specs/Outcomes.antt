@@ -31,6 +31,10 @@ map-ends g h (ended {s} {x} p) = ended (h s x p)
 map-ends g h (failed {e = e} f) = failed (g e f)
 map-ends g h unsaid = unsaid
 
+-- what is said of an outcome that goes on
+pub went : {A : Type 0} {P : Store → A → Type 0} {F : Failure → Type 0} {s : Store} {x : A} → Ends P F (goes s x) → P s x
+went (ended p) = p
+
 -- a failure that is a full table
 abbrev pub OnlyFull : Failure → Type 0
 OnlyFull Clash = ⊥

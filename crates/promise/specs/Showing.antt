@@ -39,12 +39,12 @@ unfolding from
 from-upto i zero = refl
 from-upto i (suc n) = let e : i + 1 ≡ suc i = omega arith in ap (i ∷_) (ap (λ k. from k n) e ∙ from-upto (suc i) n)
 
-length-from : (i n : ℕ) → length (from i n) ≡ n
+pub length-from : (i n : ℕ) → length (from i n) ≡ n
 unfolding from
 length-from i zero = refl
 length-from i (suc n) = ap suc (length-from (i + 1) n)
 
-nth-from : (i n j : ℕ) → j < n → nth (from i n) j ≡ i + j
+pub nth-from : (i n j : ℕ) → j < n → nth (from i n) j ≡ i + j
 unfolding from
 nth-from i zero j h = absurd (omega arith)
 nth-from i (suc n) zero h = omega arith

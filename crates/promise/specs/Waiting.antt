@@ -1,7 +1,10 @@
 -- Pairs of records that wait, read as pairs of trees, and what one step of the machine comes to: moves of the trees, or a pair that fails.
 use Prim.Native.Nat.{ℕ}
+use mathlib.Core.Path.{_≡_, refl}
 use mathlib.Core.List.{List, [], _∷_, _++_}
 use mathlib.Core.Option.{Option}
+use native.Mathlib.Omega.{arith}
+use lib.ListN.{length}
 use Rattle.rules.specs.declared.Failure.{Failure}
 use Rattle.rules.specs.declared.Failure.the-variants.{Clash, Escape, Occurs, QueueFull, TableFull}
 use Rattle.rules.specs.Store.{Store, Out, goes}
@@ -34,6 +37,12 @@ unfolding zip
 spread t-nil t-nil r-nil r-nil = ([], spread-nil, p-nil)
 spread (t-cons d e) (t-cons f g) (r-cons {t = t} p q) (r-cons {t = u} r s) =
     let z = spread e g q s in ((t, u) ∷ z .0, spread-cons (z .1), p-cons p r (z .2))
+
+-- they have equally many arguments
+pub equally-many : {S : ℕ → Option Ty} {D : Sig} {G : List Ty} {A : Ty} {b c : ℕ} {x y : Tree} {ws : List ℕ} {n : ℕ} {xs ys : List ℕ} → HasTy S D G x (args A b)
+    → HasTy S D G y (args A c) → Reads ws n (many xs) x → Reads ws n (many ys) y → length xs ≡ length ys
+equally-many t-nil t-nil r-nil r-nil = refl
+equally-many (t-cons d e) (t-cons f g) (r-cons p q) (r-cons r s) = let z = equally-many e g q s in omega arith
 
 module _ (S : ℕ → Option Ty) where
   -- runs of moves of the trees, nothing frozen

@@ -14,6 +14,8 @@ use borrow.Author.Tests.{lt-ltb, le-ltb}
 use Rattle.rules.specs.Machine.{Pair as Waiting}
 use Rattle.queue.specs.declared.Ring.{Ring}
 use Rattle.queue.specs.declared.Pair.{Pair}
+use Rattle.queue.specs.declared.Joined.{Joined}
+use Rattle.queue.specs.declared.Joined.the-variants.{Full, To}
 
 -- a number below twice cap, within the ring
 unfoldable pub wrap : ℕ → ℕ → ℕ
@@ -116,6 +118,17 @@ pub record Joins (q : List ℕ) (cap : ℕ) (g : Ring) (new : List Waiting) (q�
   pub fine : Fine q₁ cap g₁
   pub counted : g₁ .count ≡ g .count + length new
   pub seen : view q₁ cap g₁ ≡ view q cap g ++ new
+
+-- these pairs were to join: waiting pairs plus new ones exceed cap, or they have joined
+pub record Queued (q : List ℕ) (cap : ℕ) (g : Ring) (new : List Waiting) (q₁ : List ℕ) (x : Joined) : Type 0 where
+  pub full : x ≡ Full → cap < g .count + length new
+  pub to : (g₁ : Ring) → x ≡ To g₁ → Joins q cap g new q₁ g₁
+
+pub queued-full : (q : List ℕ) (cap : ℕ) (g : Ring) (new : List Waiting) (q₁ : List ℕ) → cap < g .count + length new → Queued q cap g new q₁ Full
+queued-full q cap g new q₁ h = record { full = λ e. h; to = λ g₁ e. let z : _≡_ {A = ℕ} 0 1 = cc in absurd (omega arith) }
+
+pub queued-to : (q : List ℕ) (cap : ℕ) (g : Ring) (new : List Waiting) (q₁ : List ℕ) (g₁ : Ring) → Joins q cap g new q₁ g₁ → Queued q cap g new q₁ (To g₁)
+queued-to q cap g new q₁ g₁ j = record { full = λ e. let z : _≡_ {A = ℕ} 0 1 = cc in absurd (omega arith); to = λ g₂ e. let z : g₁ ≡ g₂ = cc in rw (← z) j }
 
 pub joins-none : (q : List ℕ) (cap : ℕ) (g : Ring) → Fine q cap g → Joins q cap g [] q g
 joins-none q cap g f = record { fine = f; counted = omega arith; seen = sym (append-nil _) }

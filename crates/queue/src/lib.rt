@@ -4,12 +4,11 @@ use table::NONE;
 use table::read;
 ghost use mathlib.Core.Path.{_≡_};
 ghost use mathlib.Core.List.{_∷_, []};
-ghost use Prim.Native.Nat.{_+_, _*_, _<_, _≤_};
-ghost use lib.ListN.{length};
+ghost use Prim.Native.Nat.{_+_, _<_};
 ghost use Rattle.rules.specs.Machine.{equations};
-ghost use Rattle.queue.specs.Ring.{Wraps, Roomy, Some, Joins, Leaves, frontOf, noPair};
-ghost use Rattle.queue.specs.Arguments.{Both, pairsOf, Joining};
-ghost use Rattle.queue.specs.Equations.{equationsFrom, EnteringOne, Entering};
+ghost use Rattle.queue.specs.Ring.{Wraps, Roomy, Some, Joins, Queued, Leaves, frontOf, noPair};
+ghost use Rattle.queue.specs.Arguments.{pairsOf, Joining};
+ghost use Rattle.queue.specs.Equations.{Entering};
 
 // The place of the first pair, and how many wait.
 pub struct Ring {
@@ -21,6 +20,12 @@ pub struct Ring {
 pub struct Pair {
     pub left: u32,
     pub right: u32,
+}
+
+// What the queue answers to new pairs: waiting pairs plus new ones exceed cap, or all have joined.
+pub enum Joined {
+    Full,
+    To(Ring),
 }
 
 // A place below twice cap, round the ring.
@@ -74,23 +79,7 @@ pub fn leave(queue: &[u32], cap: usize, ring: Ring) -> Ring
     }
 }
 
-// How many argument pairs two lists make.
-pub fn count_pairs(table: &[u32], left: u32, right: u32) -> usize
-    requires { ⌜ Both (now table) left right ⌝ }
-    ensures { λ k. ⌜ length (pairsOf (now (table .entry)) left right) ≡ k ⌝ }
-{
-    if left == NONE {
-        return 0;
-    }
-    if right == NONE {
-        return 0;
-    }
-    let one = read(table, left);
-    let two = read(table, right);
-    count_pairs(table, one.b, two.b) + 1
-}
-
-// The argument pairs of two lists join the queue in order.
+// The argument pairs of two lists, equally long, join the queue in order.
 pub fn join_pairs(
     table: &[u32],
     queue: &mut [u32],
@@ -98,66 +87,40 @@ pub fn join_pairs(
     ring: Ring,
     left: u32,
     right: u32,
-) -> Ring
+) -> Joined
     requires { ⌜ Joining (now table) (now queue) cap ring left right ⌝ }
-    ensures { λ g. ⌜ Joins (now (queue .entry)) cap ring (pairsOf (now (table .entry)) left right) (now (queue .exit)) g ⌝ }
+    ensures { λ x. ⌜ Queued (now (queue .entry)) cap ring (pairsOf (now (table .entry)) left right) (now (queue .exit)) x ⌝ }
 {
-    if left == NONE {
-        return ring;
+    let mut g = ring;
+    let mut l = left;
+    let mut r = right;
+    while l != NONE {
+        if g.count == cap {
+            return Joined::Full;
+        }
+        let one = read(table, l);
+        let two = read(table, r);
+        g = join(queue, cap, g, one.a, two.a);
+        l = one.b;
+        r = two.b;
     }
-    if right == NONE {
-        return ring;
-    }
-    let one = read(table, left);
-    let two = read(table, right);
-    let more = join(queue, cap, ring, one.a, two.a);
-    join_pairs(table, queue, cap, more, one.b, two.b)
-}
-
-// How many equations a record is: one or none.
-fn count_equation(table: &[u32], e: u32) -> usize
-    requires { ⌜ 4 * e + 3 < length (now table) ⌝ }
-    ensures { λ k. ⌜ length (equationsFrom (now (table .entry)) e 1) ≡ k ⌝ }
-{
-    let rec = read(table, e);
-    if rec.tag == EQ {
-        return 1;
-    }
-    0
-}
-
-// How many equations stand among the first n records.
-pub fn count_equations(table: &[u32], n: u32) -> usize
-    requires { ⌜ (4 * n ≤ length (now table)) × (n ≤ 4096) ⌝ }
-    ensures { λ k. ⌜ length (equations (now (table .entry)) n) ≡ k ⌝ }
-{
-    let mut k = 0;
-    for e in 0..n {
-        k += count_equation(table, e);
-    }
-    k
-}
-
-// A record that is an equation enters the queue.
-fn enter_equation(table: &[u32], queue: &mut [u32], cap: usize, ring: Ring, e: u32) -> Ring
-    requires { ⌜ EnteringOne (now table) (now queue) cap ring e ⌝ }
-    ensures { λ g. ⌜ Joins (now (queue .entry)) cap ring (equationsFrom (now (table .entry)) e 1) (now (queue .exit)) g ⌝ }
-{
-    let rec = read(table, e);
-    if rec.tag == EQ {
-        return join(queue, cap, ring, rec.a, rec.b);
-    }
-    ring
+    Joined::To(g)
 }
 
 // The equations among the first n records enter the queue in record order.
-pub fn enter_equations(table: &[u32], queue: &mut [u32], cap: usize, n: u32) -> Ring
+pub fn enter_equations(table: &[u32], queue: &mut [u32], cap: usize, n: u32) -> Joined
     requires { ⌜ Entering (now table) (now queue) cap n ⌝ }
-    ensures { λ g. ⌜ Joins (now (queue .entry)) cap noPair (equations (now (table .entry)) n) (now (queue .exit)) g ⌝ }
+    ensures { λ x. ⌜ Queued (now (queue .entry)) cap noPair (equations (now (table .entry)) n) (now (queue .exit)) x ⌝ }
 {
     let mut ring = Ring { head: 0, count: 0 };
     for e in 0..n {
-        ring = enter_equation(table, queue, cap, ring, e);
+        let rec = read(table, e);
+        if rec.tag == EQ {
+            if ring.count == cap {
+                return Joined::Full;
+            }
+            ring = join(queue, cap, ring, rec.a, rec.b);
+        }
     }
-    ring
+    Joined::To(ring)
 }

@@ -65,15 +65,15 @@ unfoldable pub sameHead : List ℕ → ℕ → ℕ → ℕ → Bool
 sameHead ws k l r = both (has ws l k) (both (has ws r k) (eqb (fieldA ws l) (fieldA ws r)))
 
 -- steps 2 to 5, for two sides whose heads are no solved holes
--- 2: two lambdas: go on with the bodies (a lambda and an application, which can not meet at one type, would clash)
+-- 2: two lambdas: go on with the bodies
 -- 3: two applied constants, or two applied variables, with equal heads: the argument pairs join the queue in order
 -- 4: the same unsolved hole twice
--- 5: an unsolved hole on one side, else a clash
+-- 5: an unsolved hole on one side, else other rigid heads meet
 unfoldable pub meet : ℕ → ℕ → List Pair → ℕ → ℕ → Store → Out Next
 meet R C q l r s =
     let ws = s .words in
-    elim (either (has ws l LA) (has ws r LA)) [
-      | true ↦ elim (both (has ws l LA) (has ws r LA)) [ true ↦ goes s (on (fieldA ws l) (fieldA ws r)) | false ↦ fail Clash s ]
+    elim (both (has ws l LA) (has ws r LA)) [
+      | true ↦ goes s (on (fieldA ws l) (fieldA ws r))
       | false ↦ elim (either (sameHead ws CA l r) (sameHead ws VA l r)) [
         | true ↦ do
           (s₁, q₁) ← join C q (zip (arguments ws l) (arguments ws r)) s

@@ -22,26 +22,37 @@ use Rattle.invariants.specs.Floor.{Term}
 use Rattle.store.specs.Said.{store}
 use Rattle.step.specs.Said.{finish}
 
--- of one kind, with equal heads
-pub record SameHeads (x y : Record) (b : Bool) : Type 0 where
-  pub yes : b ≡ true → (x .tag ≡ y .tag) × (x .a ≡ y .a)
-  pub no : b ≡ false → x .tag ≡ y .tag → x .a ≡ y .a → ⊥
+-- a test of two things, one after the other
+pub record Tested (P Q : Type 0) (b : Bool) : Type 0 where
+  pub yes : b ≡ true → P × Q
+  pub no : b ≡ false → P → Q → ⊥
 
-pub same-kind : (x y : Record) (b : Bool) → x .tag ≡ y .tag → eqb (x .a) (y .a) ≡ b → SameHeads x y b
-same-kind x y b t e = go (ℕ-discrete (x .a) (y .a))
+pub second-tested : {P : Type 0} {i j : ℕ} {b : Bool} → P → eqb i j ≡ b → Tested P (i ≡ j) b
+second-tested {P} {i} {j} {b} t e = go (ℕ-discrete i j)
   where
-    go : Dec (x .a ≡ y .a) → SameHeads x y b
+    go : Dec (i ≡ j) → Tested P (i ≡ j) b
     go (yes a) = let z : true ≡ b = sym (eq-eqb _ _ a) ∙ e in record { yes = λ p. (t, a); no = λ p. let w : _≡_ {A = ℕ} 0 1 = cc in absurd (omega arith) }
     go (no a) = let z : false ≡ b = sym (ne-eqb _ _ a) ∙ e in record { yes = λ p. let w : _≡_ {A = ℕ} 0 1 = cc in absurd (omega arith); no = λ p q r. a r }
 
-pub other-kind : (x y : Record) → (x .tag ≡ y .tag → ⊥) → SameHeads x y false
-other-kind x y t = record { yes = λ p. let w : _≡_ {A = ℕ} 0 1 = cc in absurd (omega arith); no = λ p q r. t q }
+pub first-fails : {P Q : Type 0} → (P → ⊥) → Tested P Q false
+first-fails t = record { yes = λ p. let w : _≡_ {A = ℕ} 0 1 = cc in absurd (omega arith); no = λ p q r. t q }
+
+-- two lambdas
+abbrev pub TwoLambdas : Record → Record → Bool → Type 0
+TwoLambdas x y b = Tested (x .tag ≡ 6) (y .tag ≡ 6) b
+
+-- of one kind, with equal heads
+abbrev pub SameHeads : Record → Record → Bool → Type 0
+SameHeads x y b = Tested (x .tag ≡ y .tag) (x .a ≡ y .a) b
 
 eight : (t : ℕ) → 6 ≤ t → t ≤ 9 → (t ≡ 6 → ⊥) → (t ≡ 7 → ⊥) → (t ≡ 9 → ⊥) → t ≡ 8
 eight t a b c d e = omega arith
 
 seven : (t : ℕ) → 6 ≤ t → (t ≡ 6 → ⊥) → 7 ≤ t
 seven t a b = omega arith
+
+at-most : (t : ℕ) → t ≤ 9 → (t ≡ 9 → ⊥) → t ≤ 8
+at-most t a b = omega arith
 
 -- both sides are terms that can be read
 pub record Terms (ws : List ℕ) (l r : ℕ) : Type 0 where
@@ -62,8 +73,8 @@ meetAs Clash R C q l r s = fail Clashes s
 -- what is known of two sides that meet so
 abbrev pub FactOf : List ℕ → ℕ → ℕ → Meeting → Type 0
 FactOf ws l r (Bodies a b) = Unit {0}
-FactOf ws l r (Arguments a b) = (7 ≤ tag ws l) × (7 ≤ tag ws r) × (a ≡ fieldB ws l) × (b ≡ fieldB ws r)
-FactOf ws l r SameHole = (tag ws l ≡ 9) × (tag ws r ≡ 9)
+FactOf ws l r (Arguments a b) = (7 ≤ tag ws l) × (tag ws l ≤ 8) × (tag ws r ≡ tag ws l) × (fieldA ws l ≡ fieldA ws r) × (a ≡ fieldB ws l) × (b ≡ fieldB ws r)
+FactOf ws l r SameHole = (tag ws l ≡ 9) × (tag ws r ≡ 9) × (fieldA ws l ≡ fieldA ws r)
 FactOf ws l r LeftHole = tag ws l ≡ 9
 FactOf ws l r RightHole = tag ws r ≡ 9
 FactOf ws l r Clash = Unit {0}
@@ -129,13 +140,9 @@ module _ (R C : ℕ) (q : List Waiting) (ws ss : List ℕ) (u l r : ℕ) where
 
   meet-bodies : has ws l 6 ≡ true → has ws r 6 ≡ true → Meet (goes (store ws ss u) (on (fieldA ws l) (fieldA ws r)))
   unfolding meet
-  meet-bodies a b = rw (either-left _ (has ws r 6) a, meet, both-yes _ _ a b)
+  meet-bodies a b = rw (both-yes _ _ a b, meet)
 
-  meet-mixed : either (has ws l 6) (has ws r 6) ≡ true → both (has ws l 6) (has ws r 6) ≡ false → Meet (fail Clashes (store ws ss u))
-  unfolding meet
-  meet-mixed a b = rw (a, meet, b)
-
-  module _ (none : either (has ws l 6) (has ws r 6) ≡ false) where
+  module _ (none : both (has ws l 6) (has ws r 6) ≡ false) where
     meet-arguments : either (sameHead ws 7 l r) (sameHead ws 8 l r) ≡ true → Meet (join C q (zip (arguments ws l) (arguments ws r)) (store ws ss u) >>= (λ p. goes (p .0) (done (p .1))))
     unfolding meet
     meet-arguments a = rw (none, meet, a)
@@ -177,76 +184,73 @@ module _ (ws : List ℕ) (l r : ℕ) (h : Terms ws l r) (x y : Record) (ex : IsR
   right-not : (k : ℕ) → (y .tag ≡ k → ⊥) → tag ws r ≡ k → ⊥
   right-not k n z = n (ey .tag-is ∙ z)
 
-  pub meets-bodies : x .tag ≡ 6 → y .tag ≡ 6 → MeetsAs ws l r (Bodies (x .a) (y .a))
-  meets-bodies a b =
-      record { run = λ R C q ss u. rw (ex .a-is, ey .a-is) (meet-bodies R C q ws ss u l r (has-is ws l 6 (left-is 6 a)) (has-is ws r 6 (right-is 6 b))); fact = tt }
+  module _ (c : Bool) (tl : TwoLambdas x y c) where
+    pub meets-bodies : c ≡ true → MeetsAs ws l r (Bodies (x .a) (y .a))
+    meets-bodies e =
+        let t = tl .yes e in
+        record { run = λ R C q ss u. rw (ex .a-is, ey .a-is) (meet-bodies R C q ws ss u l r (has-is ws l 6 (left-is 6 (t .0))) (has-is ws r 6 (right-is 6 (t .1)))); fact = tt }
 
-  pub clash-left : x .tag ≡ 6 → (y .tag ≡ 6 → ⊥) → MeetsAs ws l r Clash
-  clash-left a b =
-      let l₁ = has-is ws l 6 (left-is 6 a) in
-      record { run = λ R C q ss u. meet-mixed R C q ws ss u l r (either-left _ _ l₁) (both-right _ _ l₁ (has-not ws r 6 (right-not 6 b))); fact = tt }
+    module _ (a : c ≡ false) (s : Bool) (sh : SameHeads x y s) where
+      none : both (has ws l 6) (has ws r 6) ≡ false
+      none = go (ℕ-discrete (tag ws l) 6)
+        where
+          go : Dec (tag ws l ≡ 6) → both (has ws l 6) (has ws r 6) ≡ false
+          go (no p) = both-left _ _ (has-not ws l 6 p)
+          go (yes p) = both-right _ _ (has-is ws l 6 p) (has-not ws r 6 (λ k. tl .no a (ex .tag-is ∙ p) (ey .tag-is ∙ k)))
 
-  pub clash-right : (x .tag ≡ 6 → ⊥) → y .tag ≡ 6 → MeetsAs ws l r Clash
-  clash-right a b =
-      let l₁ = has-not ws l 6 (left-not 6 a) in
-      record { run = λ R C q ss u. meet-mixed R C q ws ss u l r (either-right _ _ l₁ (has-is ws r 6 (right-is 6 b))) (both-left _ _ l₁); fact = tt }
+      -- of one kind, with equal heads
+      alike : s ≡ true → (tag ws r ≡ tag ws l) × (fieldA ws l ≡ fieldA ws r)
+      alike e = let p = sh .yes e in (sym (ey .tag-is) ∙ sym (p .0) ∙ ex .tag-is, sym (ex .a-is) ∙ p .1 ∙ ey .a-is)
 
-  module _ (a : x .tag ≡ 6 → ⊥) (b : y .tag ≡ 6 → ⊥) (s : Bool) (sh : SameHeads x y s) where
-    none : either (has ws l 6) (has ws r 6) ≡ false
-    none = either-none _ _ (has-not ws l 6 (left-not 6 a)) (has-not ws r 6 (right-not 6 b))
-
-    -- of one kind, with equal heads
-    alike : s ≡ true → (tag ws r ≡ tag ws l) × (fieldA ws l ≡ fieldA ws r)
-    alike e = let p = sh .yes e in (sym (ey .tag-is) ∙ sym (p .0) ∙ ex .tag-is, sym (ex .a-is) ∙ p .1 ∙ ey .a-is)
-
-    pub meets-same : s ≡ true → x .tag ≡ 9 → MeetsAs ws l r SameHole
-    meets-same e t =
-        let p = alike e in
-        let l₁ = left-is 9 t in
-        let r₁ : tag ws r ≡ 9 = p .0 ∙ l₁ in
-        let n₇ : tag ws l ≡ 7 → ⊥ = omega arith in
-        let n₈ : tag ws l ≡ 8 → ⊥ = omega arith in
-        record { run = λ R C q ss u. meet-same R C q ws ss u l r none (either-none _ _ (same-not ws 7 l r n₇) (same-not ws 8 l r n₈)) (same-yes ws 9 l r l₁ r₁ (p .1)); fact = (l₁, r₁) }
-
-    pub meets-arguments : s ≡ true → (x .tag ≡ 9 → ⊥) → MeetsAs ws l r (Arguments (x .b) (y .b))
-    unfolding arguments
-    meets-arguments e t =
-        let p = alike e in
-        let p₀ = p .0 in
-        let lo = h .left .low in
-        let n₆ = left-not 6 a in
-        record { run = λ R C q ss u. rw (ex .b-is, ey .b-is) (meet-arguments R C q ws ss u l r none (go p (ℕ-discrete (tag ws l) 7))); fact = (seven (tag ws l) lo n₆, seven (tag ws r) (h .right .low) (right-not 6 b), ex .b-is, ey .b-is) }
-      where
-        go : (tag ws r ≡ tag ws l) × (fieldA ws l ≡ fieldA ws r) → Dec (tag ws l ≡ 7) → either (sameHead ws 7 l r) (sameHead ws 8 l r) ≡ true
-        go p (yes k) = either-left _ _ (same-yes ws 7 l r k (p .0 ∙ k) (p .1))
-        go p (no k) =
-            let k₀ : tag ws l ≡ 8 = eight (tag ws l) (h .left .low) (h .left .high) (left-not 6 a) k (left-not 9 t) in
-            either-right _ _ (same-not ws 7 l r k) (same-yes ws 8 l r k₀ (p .0 ∙ k₀) (p .1))
-
-    module _ (e : s ≡ false) where
-      differ : (k : ℕ) → sameHead ws k l r ≡ false
-      differ k = same-differ ws k l r (λ p c. sh .no e (ex .tag-is ∙ p ∙ sym (ey .tag-is)) (ex .a-is ∙ c ∙ sym (ey .a-is)))
-
-      solves : (R C : ℕ) (q : List Waiting) (ss : List ℕ) (u : ℕ) → meet R C q l r (store ws ss u) ≡ (solveOne R l r (store ws ss u) >>= finish q)
-      solves R C q ss u = meet-solve R C q ws ss u l r none (either-none _ _ (differ 7) (differ 8)) (differ 9)
-
-      pub meets-left : x .tag ≡ 9 → MeetsAs ws l r LeftHole
-      meets-left t =
+      pub meets-same : s ≡ true → x .tag ≡ 9 → MeetsAs ws l r SameHole
+      meets-same e t =
+          let p = alike e in
           let l₁ = left-is 9 t in
-          record { run = λ R C q ss u. solves R C q ss u ∙ ap (λ (o : Out ℕ). o >>= finish q) (solve-left R C q ws ss u l r (has-is ws l 9 l₁)); fact = l₁ }
+          let r₁ : tag ws r ≡ 9 = p .0 ∙ l₁ in
+          let n₇ : tag ws l ≡ 7 → ⊥ = omega arith in
+          let n₈ : tag ws l ≡ 8 → ⊥ = omega arith in
+          record { run = λ R C q ss u. meet-same R C q ws ss u l r none (either-none _ _ (same-not ws 7 l r n₇) (same-not ws 8 l r n₈)) (same-yes ws 9 l r l₁ r₁ (p .1)); fact = (l₁, r₁, p .1) }
 
-      pub meets-right : (x .tag ≡ 9 → ⊥) → y .tag ≡ 9 → MeetsAs ws l r RightHole
-      meets-right t k =
-          let r₁ = right-is 9 k in
-          record {
-            run = λ R C q ss u. solves R C q ss u ∙ ap (λ (o : Out ℕ). o >>= finish q) (solve-right R C q ws ss u l r (has-not ws l 9 (left-not 9 t)) (has-is ws r 9 r₁));
-            fact = r₁;
-          }
+      pub meets-arguments : s ≡ true → (x .tag ≡ 9 → ⊥) → MeetsAs ws l r (Arguments (x .b) (y .b))
+      unfolding arguments
+      meets-arguments e t =
+          let p = alike e in
+          record { run = λ R C q ss u. rw (ex .b-is, ey .b-is) (meet-arguments R C q ws ss u l r none (go p (ℕ-discrete (tag ws l) 7))); fact = (seven (tag ws l) (h .left .low) (unlike p), at-most (tag ws l) (h .left .high) (left-not 9 t), p .0, p .1, ex .b-is, ey .b-is) }
+        where
+          -- of one kind, and so no lambdas
+          unlike : (tag ws r ≡ tag ws l) × (fieldA ws l ≡ fieldA ws r) → tag ws l ≡ 6 → ⊥
+          unlike p z = tl .no a (ex .tag-is ∙ z) (ey .tag-is ∙ p .0 ∙ z)
 
-      pub meets-clash : (x .tag ≡ 9 → ⊥) → (y .tag ≡ 9 → ⊥) → MeetsAs ws l r Clash
-      meets-clash t k =
-          record {
-            run = λ R C q ss u.
-                solves R C q ss u ∙ ap (λ (o : Out ℕ). o >>= finish q) (solve-none R C q ws ss u l r (has-not ws l 9 (left-not 9 t)) (has-not ws r 9 (right-not 9 k))) ∙ fail-on (store ws ss u) q;
-            fact = tt;
-          }
+          go : (tag ws r ≡ tag ws l) × (fieldA ws l ≡ fieldA ws r) → Dec (tag ws l ≡ 7) → either (sameHead ws 7 l r) (sameHead ws 8 l r) ≡ true
+          go p (yes k) = either-left _ _ (same-yes ws 7 l r k (p .0 ∙ k) (p .1))
+          go p (no k) =
+              let k₀ : tag ws l ≡ 8 = eight (tag ws l) (h .left .low) (h .left .high) (unlike p) k (left-not 9 t) in
+              either-right _ _ (same-not ws 7 l r k) (same-yes ws 8 l r k₀ (p .0 ∙ k₀) (p .1))
+
+      module _ (e : s ≡ false) where
+        differ : (k : ℕ) → sameHead ws k l r ≡ false
+        differ k = same-differ ws k l r (λ p c. sh .no e (ex .tag-is ∙ p ∙ sym (ey .tag-is)) (ex .a-is ∙ c ∙ sym (ey .a-is)))
+
+        solves : (R C : ℕ) (q : List Waiting) (ss : List ℕ) (u : ℕ) → meet R C q l r (store ws ss u) ≡ (solveOne R l r (store ws ss u) >>= finish q)
+        solves R C q ss u = meet-solve R C q ws ss u l r none (either-none _ _ (differ 7) (differ 8)) (differ 9)
+
+        pub meets-left : x .tag ≡ 9 → MeetsAs ws l r LeftHole
+        meets-left t =
+            let l₁ = left-is 9 t in
+            record { run = λ R C q ss u. solves R C q ss u ∙ ap (λ (o : Out ℕ). o >>= finish q) (solve-left R C q ws ss u l r (has-is ws l 9 l₁)); fact = l₁ }
+
+        pub meets-right : (x .tag ≡ 9 → ⊥) → y .tag ≡ 9 → MeetsAs ws l r RightHole
+        meets-right t k =
+            let r₁ = right-is 9 k in
+            record {
+              run = λ R C q ss u. solves R C q ss u ∙ ap (λ (o : Out ℕ). o >>= finish q) (solve-right R C q ws ss u l r (has-not ws l 9 (left-not 9 t)) (has-is ws r 9 r₁));
+              fact = r₁;
+            }
+
+        pub meets-clash : (x .tag ≡ 9 → ⊥) → (y .tag ≡ 9 → ⊥) → MeetsAs ws l r Clash
+        meets-clash t k =
+            record {
+              run = λ R C q ss u.
+                  solves R C q ss u ∙ ap (λ (o : Out ℕ). o >>= finish q) (solve-none R C q ws ss u l r (has-not ws l 9 (left-not 9 t)) (has-not ws r 9 (right-not 9 k))) ∙ fail-on (store ws ss u) q;
+              fact = tt;
+            }

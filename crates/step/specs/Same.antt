@@ -1,11 +1,11 @@
 -- Step 4: the same unsolved hole twice.
 use Prim.Native.Nat.{ℕ, _+_, _-_, _*_, _<_}
 use mathlib.Core.Path.{_≡_, sym, _∙_}
-use mathlib.Core.List.{List, [], map}
-use mathlib.Core.Bool.{true}
+use mathlib.Core.List.{List}
+use mathlib.Core.Bool.{Bool, true, false}
 use native.Mathlib.Omega.{arith}
 use lib.ListN.{length, length-map}
-use borrow.Author.Tests.{eq-eqb, ne-eqb}
+use lib.Dec.{eqb}
 use Rattle.store.specs.declared.Walked.{Walked}
 use Rattle.table.specs.declared.Record.{Record}
 use Rattle.table.specs.Reading.{IsRecord}
@@ -19,12 +19,11 @@ use Rattle.rules.specs.Walk.{narrow}
 use Rattle.rules.specs.Machine.{agreeing, sameHole}
 use Rattle.invariants.specs.Floor.{Sub, Fine}
 use Rattle.store.specs.Said.{store, shown, Does²}
-use Rattle.places.specs.Maps.{mapOf, mapOf-length, Whole, side, noPlace, none-none}
-use Rattle.places.specs.Lists.{Counts, varsOf}
-use Rattle.places.specs.Numbered.{numbering-none}
+use Rattle.places.specs.Maps.{mapOf, Whole, side}
+use Rattle.places.specs.Lists.{Counts}
 use Rattle.places.specs.Agree.{Comparing, Agrees}
 use Rattle.narrow.specs.Narrowing.{Narrowing}
-use Rattle.rewrite.specs.Parts.{term-read, counts-at, counts-of, narrows}
+use Rattle.rewrite.specs.Parts.{term-read, counts-of, narrows}
 use Rattle.queue.specs.Ring.{view}
 use Rattle.step.specs.Said.{stepped, Quiet, ThenFinishes, quiet-done}
 
@@ -34,22 +33,21 @@ pub record Occurrences (ws : List ℕ) (l r : ℕ) : Type 0 where
   pub inside-right : 4 * r + 3 < length ws
   pub left : Counts ws (fieldB ws l)
   pub right : Counts ws (fieldB ws r)
+  pub many : length (elements ws (fieldB ws l)) ≡ length (elements ws (fieldB ws r))
 
--- the map leads from the positions at which their arguments agree
+-- the map leads from the positions at which their arguments agree, and has a position for each argument
 pub record Agreed (ws : List ℕ) (l r : ℕ) (m : Map) : Type 0 where
-  pub run : sources (mapOf m) ≡ agreeing 0 (variables ws l) (variables ws r)
+  pub run : sources (mapOf false m) ≡ agreeing 0 (variables ws l) (variables ws r)
+  pub len : m .len ≡ length (elements ws (fieldB ws l))
   pub whole : Whole m
 
-module _ {ws : List ℕ} {l r : ℕ} where
-  pub compares : (x y : Record) (acc : Map) → IsRecord ws l x → IsRecord ws r y → Occurrences ws l r → noPlace ≡ acc → Comparing ws (x .b) (y .b) 0 acc
-  compares x y acc e e₁ h q = record { one = numbering-none ws (x .b) acc (rw (e .b-is) (h .left)) q; two = rw (e₁ .b-is) (h .right .list) }
+module _ {ws : List ℕ} {l r : ℕ} (x y : Record) (e : IsRecord ws l x) (e₁ : IsRecord ws r y) where
+  pub compares : Occurrences ws l r → Comparing ws (x .b) (y .b)
+  compares h = rw (e .b-is, e₁ .b-is) (record { left = h .left; right = h .right .list; alike = h .many })
 
-  pub agreed : (x y : Record) (acc m : Map) → IsRecord ws l x → IsRecord ws r y → noPlace ≡ acc → Agrees ws (x .b) (y .b) 0 acc m → Agreed ws l r m
+  pub agreed : (m : Map) → Agrees ws (x .b) (y .b) m → Agreed ws l r m
   unfolding variables arguments
-  agreed x y acc m e e₁ z a =
-      let n : mapOf acc ≡ [] = rw (← z) none-none in
-      let s : sources (mapOf m) ≡ agreeing 0 (varsOf ws (x .b)) (varsOf ws (y .b)) = rw n at (a .run) in
-      record { run = rw (← e .b-is, ← e₁ .b-is) s; whole = a .whole }
+  agreed m a = record { run = rw (← e .b-is, ← e₁ .b-is) (a .run); len = rw (← e .b-is) (a .len); whole = a .whole }
 
 -- what step 4 asks
 pub record SameReady (R n : ℕ) (ws ss : List ℕ) (used l r : ℕ) : Type 0 where
@@ -59,6 +57,8 @@ pub record SameReady (R n : ℕ) (ws ss : List ℕ) (used l r : ℕ) : Type 0 wh
   pub right : Sub ws home 0 used r
   pub nine-left : tag ws l ≡ 9
   pub nine-right : tag ws r ≡ 9
+  pub many : length (elements ws (fieldB ws l)) ≡ length (elements ws (fieldB ws r))
+  pub arity : length (elements ws (fieldA ws (fieldA ws l))) ≡ length (elements ws (fieldB ws l))
 
 -- step 4 answers so, whatever waits
 pub record SameDone (g : Ring) (R l r : ℕ) (ws ss : List ℕ) (used : ℕ) (ws₁ ss₁ : List ℕ) (x : Step) : Type 0 where
@@ -78,32 +78,24 @@ module _ {R n : ℕ} {ws ss : List ℕ} {used l r : ℕ} where
         inside-right = term-read R n (h .home) ws ss used 0 r (h .fine) (h .right);
         left = counts-of R n (h .home) ws ss used 0 l (h .fine) (h .left) (omega arith);
         right = counts-of R n (h .home) ws ss used 0 r (h .fine) (h .right) (omega arith);
+        many = h .many;
       }
 
-  pub same-counts : (x : Record) → IsRecord ws l x → SameReady R n ws ss used l r → Counts ws (x .b)
-  same-counts x e h = counts-at R n (h .home) ws ss used 0 l (h .fine) (h .left) x e (h .nine-left)
-
   pub same-narrows : (x : Record) (kept : Map) → IsRecord ws l x → SameReady R n ws ss used l r → Agreed ws l r kept → Narrowing ws ss n used R (x .a) kept
-  same-narrows x kept e h a = narrows R n (h .home) ws ss used 0 l (h .fine) (h .left) x e (h .nine-left) kept (a .whole)
+  same-narrows x kept e h a = narrows R n (h .home) ws ss used 0 l (h .fine) (h .left) x e (h .nine-left) kept (a .whole) (h .arity ∙ sym (a .len))
 
-module _ (R n : ℕ) (g : Ring) (ws ss : List ℕ) (used l r : ℕ) (x : Record) (kept : Map) (k : ℕ) (e : IsRecord ws l x) (a : Agreed ws l r kept) (c : length (elements ws (x .b)) ≡ k) where
-  many : length (agreeing 0 (variables ws l) (variables ws r)) ≡ kept .len
-  many = rw (← a .run) (simp length-map (mapOf-length kept))
-
-  arity : length (variables ws l) ≡ k
+module _ (R n : ℕ) (g : Ring) (ws ss : List ℕ) (used l r : ℕ) (kept : Map) (a : Agreed ws l r kept) (b : Bool) (p : b ≡ eqb (length (mapOf false kept)) (kept .len)) where
+  tested : eqb (length (agreeing 0 (variables ws l) (variables ws r))) (length (variables ws l)) ≡ b
   unfolding variables arguments
-  arity = let c₁ : length (elements ws (fieldB ws l)) ≡ k = rw (← e .b-is) c in simp length-map c₁
+  tested = rw (← a .run) (simp length-map (rw (← a .len) (sym p)))
 
-  pub same-all : kept .len ≡ k → SameDone g R l r ws ss used ws ss (Done g used)
+  pub same-all : b ≡ true → SameDone g R l r ws ss used ws ss (Done g used)
   unfolding sameHole
-  same-all p =
-      let t : length (agreeing 0 (variables ws l) (variables ws r)) ≡ length (variables ws l) = many ∙ p ∙ sym arity in
-      record { said = λ q cap. rw (eq-eqb _ _ t, sameHole); quiet = quiet-done g used }
+  same-all q = record { said = λ v cap. rw (tested ∙ q, sameHole); quiet = quiet-done g used }
 
-  pub same-some : (ws₁ ss₁ : List ℕ) (w : Walked) (out : Step) → (kept .len ≡ k → ⊥) → Does² n (narrow R (x .a) (side true (mapOf kept))) ws ss used ws₁ ss₁ w → ThenFinishes g w out
+  pub same-some : (x : Record) (ws₁ ss₁ : List ℕ) (w : Walked) (out : Step) → IsRecord ws l x → b ≡ false → Does² n (narrow R (x .a) (side true (mapOf false kept))) ws ss used ws₁ ss₁ w → ThenFinishes g w out
       → SameDone g R l r ws ss used ws₁ ss₁ out
   unfolding sameHole side
-  same-some ws₁ ss₁ w out p d f =
-      let t : length (agreeing 0 (variables ws l) (variables ws r)) ≡ length (variables ws l) → ⊥ = λ q. p (sym many ∙ q ∙ arity) in
+  same-some x ws₁ ss₁ w out e q d f =
       let d₁ : narrow R (fieldA ws l) (agreeing 0 (variables ws l) (variables ws r)) (store ws ss used) ≡ shown ws₁ ss₁ w = rw (← a .run, ← e .a-is) (d .run) in
-      record { said = λ q cap. rw (ne-eqb _ _ t, sameHole, d₁) (f .said ws₁ ss₁ q cap); quiet = f .quiet }
+      record { said = λ v cap. rw (tested ∙ q, sameHole, d₁) (f .said ws₁ ss₁ v cap); quiet = f .quiet }

@@ -1,8 +1,9 @@
 -- The pair in hand where two sides meet whose heads are no solved holes.
-use Prim.Native.Nat.{ℕ, _-_, _≤_}
-use mathlib.Core.Path.{_≡_, ap, _∙_}
+use Prim.Native.Nat.{ℕ}
+use mathlib.Core.Path.{_≡_, sym, ap, _∙_}
 use mathlib.Core.List.{List, _∷_}
 use native.Mathlib.Omega.{arith}
+use lib.ListN.{length-map}
 use Rattle.rules.specs.declared.Failure.the-variants.{Clash as Clashes}
 use Rattle.store.specs.declared.Walked.{Walked}
 use Rattle.queue.specs.declared.Ring.{Ring}
@@ -10,7 +11,7 @@ use Rattle.step.specs.declared.Step.{Step}
 use Rattle.step.specs.declared.Step.the-variants.{On, Failed as Fell}
 use Rattle.step.specs.declared.Meeting.{Meeting}
 use Rattle.step.specs.declared.Meeting.the-variants.{Bodies, Arguments, SameHole, LeftHole, RightHole, Clash}
-use Rattle.rules.specs.Words.{tag, fieldB}
+use Rattle.rules.specs.Words.{arguments, variables}
 use Rattle.rules.specs.Store.{fail}
 use Rattle.rules.specs.Walk.{assign}
 use Rattle.rules.specs.Machine.{meet}
@@ -19,16 +20,21 @@ use Rattle.invariants.specs.Running.{Running}
 use Rattle.store.specs.Said.{store, Does²}
 use Rattle.rewrite.specs.Parts.{term-read, counts-of}
 use Rattle.walk.specs.Assign.{Assigning}
+use Rattle.promise.specs.WalkKnown.{walk-arity}
+use Rattle.promise.specs.SideKnown.{side-walks}
+use Rattle.promise.specs.Known.{Known, known-left, known-right, same-arguments, same-holes}
 use Rattle.queue.specs.Ring.{view, Fine as Ringed}
+use Rattle.queue.specs.Arguments.{Joining}
 use Rattle.step.specs.Said.{Steps, ThenFinishes, quiet-rings, failed-rings, on-rings}
 use Rattle.step.specs.Meets.{Terms, MeetsAs, FactOf, meetAs}
-use Rattle.step.specs.Arguments.{Arguing, Argues}
+use Rattle.step.specs.Arguments.{Argues}
 use Rattle.step.specs.Same.{SameReady, SameDone}
 
 -- the pair (l, r) is in hand while those of the ring wait
 pub record Stood (R n : ℕ) (ws ss : List ℕ) (used : ℕ) (q : List ℕ) (cap : ℕ) (g : Ring) (l r : ℕ) : Type 0 where
   pub home : ℕ → ℕ
   pub running : Running R cap n home (store ws ss used) ((l, r) ∷ view q cap g)
+  pub known : Known R (store ws ss used) ((l, r) ∷ view q cap g)
   pub ring : Ringed q cap g
 
 pub fine-of : (R n : ℕ) (ws ss : List ℕ) (used : ℕ) (q : List ℕ) (cap : ℕ) (g : Ring) (l r : ℕ) (h : Stood R n ws ss used q cap g l r) → Fine R n (h .home) (store ws ss used)
@@ -63,29 +69,50 @@ module _ (R n : ℕ) (ws ss : List ℕ) (used : ℕ) (q : List ℕ) (cap : ℕ) 
     met-bodies a b e = record { said = meets-so (Bodies a b) e; rings = on-rings cap q a b used }
 
     -- 3
-    pub stood-argues : (a b : ℕ) → k ≡ Arguments a b → Arguing ws q cap g a b
+    pub stood-argues : (a b : ℕ) → k ≡ Arguments a b → Joining ws q cap g a b
+    unfolding arguments
     stood-argues a b e =
-        let f : (7 ≤ tag ws l) × (7 ≤ tag ws r) × (a ≡ fieldB ws l) × (b ≡ fieldB ws r) = known (Arguments a b) e in
-        rw (f .2, f .3) (record { both = record { left = counts-of R n (h .home) ws ss used 0 l fine left (f .0); right = counts-of R n (h .home) ws ss used 0 r fine right (f .1) .list }; fine = h .ring })
+        let f : FactOf ws l r (Arguments a b) = known (Arguments a b) e in
+        let z = f .2 in
+        let lo = f .0 in
+        rw (f .4, f .5)
+        (record {
+          both = record {
+            left = counts-of R n (h .home) ws ss used 0 l fine left (f .0) .list;
+            right = counts-of R n (h .home) ws ss used 0 r fine right (omega arith) .list;
+            same = same-arguments (h .known) (f .3) (f .0) (f .1) (f .2);
+          };
+          fine = h .ring;
+        })
 
     pub met-arguments : (a b : ℕ) (q₁ : List ℕ) (x : Step) → k ≡ Arguments a b → Argues ws q cap g used a b q₁ x → Met ws ss q₁ x
     met-arguments a b q₁ x e p = record { said = meets-so (Arguments a b) e ∙ p .said ss; rings = p .rings }
 
     -- 4
     pub stood-same : k ≡ SameHole → SameReady R n ws ss used l r
+    unfolding variables arguments
     stood-same e =
-        let f : (tag ws l ≡ 9) × (tag ws r ≡ 9) = known SameHole e in
-        record { home = h .home; fine = fine; left = left; right = right; nine-left = f .0; nine-right = f .1 }
+        let f : FactOf ws l r SameHole = known SameHole e in
+        record {
+          home = h .home;
+          fine = fine;
+          left = left;
+          right = right;
+          nine-left = f .0;
+          nine-right = f .1;
+          many = simp length-map at (same-holes (h .known) (f .2) (f .0) (f .1));
+          arity = sym (simp length-map at (walk-arity (side-walks (known-left (h .known))) (f .0)));
+        }
 
     pub met-same : (ws₁ ss₁ : List ℕ) (x : Step) → k ≡ SameHole → SameDone g R l r ws ss used ws₁ ss₁ x → Met ws₁ ss₁ q x
     met-same ws₁ ss₁ x e p = record { said = meets-so SameHole e ∙ p .said q cap; rings = quiet-rings cap q g x (h .ring) (p .quiet) }
 
     -- 5
     pub stood-left : k ≡ LeftHole → Assigning R n ws ss used l r
-    stood-left e = record { home = h .home; fine = fine; left = left; occ = known LeftHole e; right = right }
+    stood-left e = record { home = h .home; fine = fine; left = left; occ = known LeftHole e; right = right; known = side-walks (known-right (h .known)) }
 
     pub stood-right : k ≡ RightHole → Assigning R n ws ss used r l
-    stood-right e = record { home = h .home; fine = fine; left = right; occ = known RightHole e; right = left }
+    stood-right e = record { home = h .home; fine = fine; left = right; occ = known RightHole e; right = left; known = side-walks (known-left (h .known)) }
 
     module _ (ws₁ ss₁ : List ℕ) (w : Walked) (x : Step) (f : ThenFinishes g w x) where
       pub met-left : k ≡ LeftHole → Does² n (assign R l r) ws ss used ws₁ ss₁ w → Met ws₁ ss₁ q x

@@ -16,6 +16,7 @@ use Rattle.rules.specs.Machine.{Pair as Waiting, Next, meet, step}
 use Rattle.invariants.specs.Floor.{Sub, Fine, Grown}
 use Rattle.invariants.specs.Copy.{Nobody, Expanded, expand-grows}
 use Rattle.invariants.specs.Pairs.{sides-kept}
+use Rattle.promise.specs.Known.{known-left, known-right, known-swap, known-expanded}
 use Rattle.store.specs.Said.{store, shown}
 use Rattle.copy.specs.Expand.{Expanding, Expands}
 use Rattle.queue.specs.Ring.{view}
@@ -41,29 +42,29 @@ module _ (R n : ℕ) (ws ss : List ℕ) (used : ℕ) (q : List ℕ) (cap : ℕ) 
   fine = fine-of R n ws ss used q cap g l r h
 
   pub expands-left : Expanding R n ws ss used l
-  expands-left = record { home = h .home; fine = fine; is = h .running .sides .0 .left }
+  expands-left = record { home = h .home; fine = fine; is = h .running .sides .0 .left; known = known-left (h .known) }
 
   pub expands-right : Expanding R n ws ss used r
-  expands-right = record { home = h .home; fine = fine; is = h .running .sides .0 .right }
+  expands-right = record { home = h .home; fine = fine; is = h .running .sides .0 .right; known = known-right (h .known) }
 
   -- a side x after step 1
-  grows : (x : ℕ) (ws₁ : List ℕ) (y : Walked) (z u : ℕ) → Sub ws (h .home) 0 used x → Expands R n ws ss used x ws₁ y → y ≡ Root z u
-      → Grown Nobody (Expanded (store ws ss used) x) R n (h .home) (store ws ss used) (store ws₁ ss u) z
-  grows x ws₁ y z u sub p e =
-      let w = fine .within in
-      let f = suc (R - used) in
-      let k : expand f R x (store ws ss used) ≡ goes (store ws₁ ss u) z = p .run f (omega arith) ∙ ap (shown ws₁ ss) e in
-      rw k at (expand-grows R n f x (store ws ss used) (h .home) fine sub (omega arith))
+  module _ (x : ℕ) (ws₁ : List ℕ) (y : Walked) (z u : ℕ) (p : Expands R n ws ss used x ws₁ y) (e : y ≡ Root z u) where
+    expanded : expand (suc (R - used)) R x (store ws ss used) ≡ goes (store ws₁ ss u) z
+    expanded = p .run (suc (R - used)) (omega arith) ∙ ap (shown ws₁ ss) e
+
+    grows : Sub ws (h .home) 0 used x → Grown Nobody (Expanded (store ws ss used) x) R n (h .home) (store ws ss used) (store ws₁ ss u) z
+    grows sub = let w = fine .within in rw expanded at (expand-grows R n (suc (R - used)) x (store ws ss used) (h .home) fine sub (omega arith))
 
   pub left-expanded : (ws₁ : List ℕ) (y : Walked) → Expands R n ws ss used l ws₁ y → Waits R n ws₁ ss q cap g y r
   left-expanded ws₁ y p =
       record {
         on = λ z u e.
-            let gr = grows l ws₁ y z u (h .running .sides .0 .left) p e in
+            let gr = grows l ws₁ y z u p e (h .running .sides .0 .left) in
             let si = sides-kept R n (h .home) (store ws ss used) (gr .home₁) (store ws₁ ss u) ((l, r) ∷ view q cap g) (gr .ext) (h .running .sides) in
             record {
               home = gr .home₁;
               running = record { some = h .running .some; fine = λ k. gr .fine; sides = (record { left = gr .root .sub; right = si .0 .right }, si .1); few = h .running .few };
+              known = known-expanded (h .known) (suc (R - used)) (expanded l ws₁ y z u p e);
               ring = h .ring;
             };
       }
@@ -72,11 +73,12 @@ module _ (R n : ℕ) (ws ss : List ℕ) (used : ℕ) (q : List ℕ) (cap : ℕ) 
   right-expanded ws₁ y p =
       record {
         on = λ z u e.
-            let gr = grows r ws₁ y z u (h .running .sides .0 .right) p e in
+            let gr = grows r ws₁ y z u p e (h .running .sides .0 .right) in
             let si = sides-kept R n (h .home) (store ws ss used) (gr .home₁) (store ws₁ ss u) ((l, r) ∷ view q cap g) (gr .ext) (h .running .sides) in
             record {
               home = gr .home₁;
               running = record { some = h .running .some; fine = λ k. gr .fine; sides = (record { left = si .0 .left; right = gr .root .sub }, si .1); few = h .running .few };
+              known = known-swap (known-expanded (known-swap (h .known)) (suc (R - used)) (expanded r ws₁ y z u p e));
               ring = h .ring;
             };
       }

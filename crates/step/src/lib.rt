@@ -3,10 +3,9 @@ use copy::expand;
 use narrow::narrow;
 use places::Map;
 use places::agreeing;
-use places::count;
-use places::empty;
+use places::all_placed;
+use queue::Joined;
 use queue::Ring;
-use queue::count_pairs;
 use queue::join_pairs;
 use rules::Failure;
 use store::Walked;
@@ -18,9 +17,10 @@ use table::read;
 use walk::assign;
 ghost use Rattle.rules.specs.Machine.{meet as meetOf, step as stepOf};
 ghost use Rattle.queue.specs.Ring.{view};
+ghost use Rattle.queue.specs.Arguments.{Joining};
 ghost use Rattle.step.specs.Said.{Steps, ThenSteps, ThenFinishes};
-ghost use Rattle.step.specs.Meets.{SameHeads, Terms, MeetsAs};
-ghost use Rattle.step.specs.Arguments.{Arguing, Argues};
+ghost use Rattle.step.specs.Meets.{TwoLambdas, SameHeads, Terms, MeetsAs};
+ghost use Rattle.step.specs.Arguments.{Argues};
 ghost use Rattle.step.specs.Same.{Occurrences, Agreed, SameReady, SameDone};
 ghost use Rattle.step.specs.Stand.{Stood};
 ghost use Rattle.step.specs.Taken.{Waits, Awaits, meeting as meetingOf, expanding as expandingOf};
@@ -42,6 +42,16 @@ pub enum Meeting {
     Clash,
 }
 
+// Two lambdas.
+fn two_lambdas(one: Record, two: Record) -> bool
+    ensures { λ r. ⌜ TwoLambdas one two r ⌝ }
+{
+    if one.tag == LA {
+        return two.tag == LA;
+    }
+    false
+}
+
 // Two records of one kind with equal heads.
 fn same_head(one: Record, two: Record) -> bool
     ensures { λ r. ⌜ SameHeads one two r ⌝ }
@@ -59,17 +69,11 @@ fn meets(table: &[u32], left: u32, right: u32) -> Meeting
 {
     let one = read(table, left);
     let two = read(table, right);
-    if one.tag == LA {
-        if two.tag == LA {
-            return Meeting::Bodies {
-                left: one.a,
-                right: two.a,
-            };
-        }
-        return Meeting::Clash;
-    }
-    if two.tag == LA {
-        return Meeting::Clash;
+    if two_lambdas(one, two) {
+        return Meeting::Bodies {
+            left: one.a,
+            right: two.a,
+        };
     }
     if same_head(one, two) {
         if one.tag == HA {
@@ -99,15 +103,13 @@ fn join_arguments(
     left: u32,
     right: u32,
 ) -> Step
-    requires { ⌜ Arguing (now table) (now queue) cap ring left right ⌝ }
+    requires { ⌜ Joining (now table) (now queue) cap ring left right ⌝ }
     ensures { λ x. ⌜ Argues (now (table .entry)) (now (queue .entry)) cap ring used left right (now (queue .exit)) x ⌝ }
 {
-    let new = count_pairs(table, left, right);
-    if cap - ring.count < new {
-        return Step::Failed(Failure::QueueFull);
+    match join_pairs(table, queue, cap, ring, left, right) {
+        Joined::Full => Step::Failed(Failure::QueueFull),
+        Joined::To(more) => Step::Done { ring: more, used },
     }
-    let more = join_pairs(table, queue, cap, ring, left, right);
-    Step::Done { ring: more, used }
 }
 
 // The pair is done with, or the failure.
@@ -127,7 +129,7 @@ fn agreement(table: &[u32], left: u32, right: u32) -> Map
 {
     let one = read(table, left);
     let two = read(table, right);
-    agreeing(table, one.b, two.b, 0, empty())
+    agreeing(table, one.b, two.b)
 }
 
 // Step 4: if all arguments agree, done; otherwise the hole is narrowed to the agreeing positions.
@@ -145,11 +147,10 @@ fn same_hole(
     ensures { λ x. ⌜ SameDone ring room left right (now (table .entry)) (now (solutions .entry)) used (now (table .exit)) (now (solutions .exit)) x ⌝ }
 {
     let kept = agreement(table, left, right);
-    let one = read(table, left);
-    let arity = count(table, one.b);
-    if kept.len == arity {
+    if all_placed(kept) {
         return Step::Done { ring, used };
     }
+    let one = read(table, left);
     let new = narrow(table, solutions, n, used, room, Hole(one.a), kept);
     done(ring, new)
 }

@@ -6,18 +6,19 @@ use Rattle.machine.proofs.machine.Tie as tie
 use Rattle.machine.proofs.machine.Reads as reads
 use Rattle.machine.proofs.machine.Lts as lts
 use Rattle.machine.proofs.run.Reads as run-reads
-use Rattle.queue.proofs.count_equations.Reads as count-equations-reads
 use Rattle.queue.proofs.enter_equations.Reads as enter-equations-reads
 
 pub machine-spec : {M : Type 1} → statement M
 machine-spec =
     tie.close
     (tie.spec
-    (λ c κs. search needs)
+    (λ c κs. search started-enters)
+    (λ c. search needs)
+    (λ c. search needs)
+    (λ c κs. search started-set)
+    (λ c. search needs)
     (λ c. search needs)
     (λ c. search machine-full)
-    (λ c κs. search started-enters)
-    (λ c κs. search started-set)
     (λ c. search needs)
     (λ c. search needs)
     (λ c. search needs)
