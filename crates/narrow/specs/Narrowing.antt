@@ -1,25 +1,25 @@
 -- Narrowing a hole, and keeping the arguments that have a place.
-use Prim.Native.Nat.{ℕ, _+_, _-_, _*_, _<_, _≤_}
+use Prim.Native.Nat.{ℕ, _+_, _*_, _<_, _≤_}
 use mathlib.Core.Path.{_≡_, sym, _∙_}
 use mathlib.Core.List.{List}
-use mathlib.Core.Bool.{true, false}
+use mathlib.Core.Bool.{Bool, true, false}
 use native.Mathlib.Omega.{arith}
 use lib.ListN.{length, set}
-use borrow.Author.Tests.{eq-eqb, ne-eqb}
+use lib.Dec.{eqb}
 use Rattle.rules.specs.declared.Failure.{Failure}
 use Rattle.store.specs.declared.Walked.{Walked}
 use Rattle.store.specs.declared.Walked.the-variants.{Root, Failed}
 use Rattle.table.specs.declared.Record.{Record}
 use Rattle.places.specs.declared.Map.{Map}
 use Rattle.table.specs.Reading.{IsRecord}
-use Rattle.rules.specs.Words.{fieldA, fieldB}
+use Rattle.rules.specs.Words.{fieldA, fieldB, elements}
 use Rattle.rules.specs.Store.{Store, Out, goes, _>>=_, pushCells, pushOccurrence, settle}
 use Rattle.rules.specs.Walk.{narrow, keepPlaced}
 use Rattle.laws.specs.Lists.{Listed}
 use Rattle.store.specs.Said.{store, shown, Since, since-root, since-failed, Does, Then, Does², Then², under, bind-assoc}
-use Rattle.places.specs.Maps.{mapOf, mapOf-length, Whole, side, sideFrom, side-start}
+use Rattle.places.specs.Maps.{mapOf, Whole, side}
 use Rattle.narrow.specs.Writing.{Writing}
-use Rattle.narrow.specs.Context.{contexts}
+use Rattle.narrow.specs.Context.{contexts, Choosing}
 
 -- what follows the new hole: its occurrence at the kept positions is the old hole's solution
 abbrev pub settling : ℕ → ℕ → List ℕ → Store × ℕ → Out ℕ
@@ -35,14 +35,14 @@ module _ (R n h : ℕ) (ks : List ℕ) (ws ss : List ℕ) (w : Walked) (new u : 
   settle-goes t u₁ p q z = record { run = rw (p, q .run ss, z); grown = since-root _ _ _ (q .grown .since t u₁ z) }
 
 pub narrow-goes : (R n h : ℕ) (m : Map) (ws ss : List ℕ) (u : ℕ) (w : Record) (ws₁ : List ℕ) (x₁ : Walked) (ws₂ : List ℕ) (x₂ : Walked) (ws₃ ss₃ : List ℕ) (x₃ : Walked)
-    → IsRecord ws h w → Does n (pushCells R (contexts ws (w .a) (sideFrom true m 0))) ws u ws₁ x₁ → Then n (under R 4 (w .b)) ws₁ x₁ ws₂ x₂
-    → Then² n (settling R h (side true (mapOf m))) ws₂ ss x₂ ws₃ ss₃ x₃ → Does² n (narrow R h (side true (mapOf m))) ws ss u ws₃ ss₃ x₃
+    → IsRecord ws h w → Does n (pushCells R (contexts ws (w .a) (side true (mapOf false m)))) ws u ws₁ x₁ → Then n (under R 4 (w .b)) ws₁ x₁ ws₂ x₂
+    → Then² n (settling R h (side true (mapOf false m))) ws₂ ss x₂ ws₃ ss₃ x₃ → Does² n (narrow R h (side true (mapOf false m))) ws ss u ws₃ ss₃ x₃
 unfolding narrow
 narrow-goes R n h m ws ss u w ws₁ x₁ ws₂ x₂ ws₃ ss₃ x₃ e p q r =
-    let p₁ : pushCells R (contexts ws (fieldA ws h) (side true (mapOf m))) (store ws ss u) ≡ shown ws₁ ss x₁ = rw (← side-start true m, ← e .a-is) (p .run ss) in
+    let p₁ : pushCells R (contexts ws (fieldA ws h) (side true (mapOf false m))) (store ws ss u) ≡ shown ws₁ ss x₁ = rw (← e .a-is) (p .run ss) in
     let q₁ : (shown ws₁ ss x₁ >>= under R 4 (fieldB ws h)) ≡ shown ws₂ ss x₂ = rw (← e .b-is) (q .run ss) in
     record {
-      run = bind-assoc _ (under R 4 (fieldB ws h)) (settling R h (side true (mapOf m))) ∙ rw (p₁, q₁) (r .run);
+      run = bind-assoc _ (under R 4 (fieldB ws h)) (settling R h (side true (mapOf false m))) ∙ rw (p₁, q₁) (r .run);
       grown = r .grown;
     }
 
@@ -55,17 +55,16 @@ pub occurring-goes : (R n : ℕ) (vs : List ℕ) (ws : List ℕ) (w : Walked) (h
 unfolding _>>=_
 occurring-goes R n vs ws w h u ws₁ x e p = record { run = λ ss. rw e (p .run ss); grown = p .grown }
 
-module _ (R n h k : ℕ) (m : Map) (ws ss : List ℕ) (u : ℕ) where
-  pub keep-all : (ws₁ : List ℕ) (x : Walked) → m .len ≡ k → Does n (pushOccurrence R h (side false (mapOf m))) ws u ws₁ x → Does² n (keepPlaced R h k (mapOf m)) ws ss u ws₁ ss x
+module _ (R n h : ℕ) (m : Map) (ws ss : List ℕ) (u : ℕ) (b : Bool) (is : b ≡ eqb (length (mapOf false m)) (m .len)) where
+  pub keep-all : (ws₁ : List ℕ) (x : Walked) → b ≡ true → Does n (pushOccurrence R h (side false (mapOf false m))) ws u ws₁ x
+      → Does² n (keepPlaced R h (m .len) (mapOf false m)) ws ss u ws₁ ss x
   unfolding keepPlaced side
-  keep-all ws₁ x e p = record { run = rw (eq-eqb _ _ (mapOf-length m ∙ e), keepPlaced) (p .run ss); grown = p .grown }
+  keep-all ws₁ x e p = record { run = rw (sym is ∙ e, keepPlaced) (p .run ss); grown = p .grown }
 
-  pub keep-some : (ws₁ ss₁ : List ℕ) (x : Walked) (ws₂ : List ℕ) (y : Walked) → (m .len ≡ k → ⊥) → Does² n (narrow R h (side true (mapOf m))) ws ss u ws₁ ss₁ x
-      → Then n (occurring R (side false (mapOf m))) ws₁ x ws₂ y → Does² n (keepPlaced R h k (mapOf m)) ws ss u ws₂ ss₁ y
+  pub keep-some : (ws₁ ss₁ : List ℕ) (x : Walked) (ws₂ : List ℕ) (y : Walked) → b ≡ false → Does² n (narrow R h (side true (mapOf false m))) ws ss u ws₁ ss₁ x
+      → Then n (occurring R (side false (mapOf false m))) ws₁ x ws₂ y → Does² n (keepPlaced R h (m .len) (mapOf false m)) ws ss u ws₂ ss₁ y
   unfolding keepPlaced side
-  keep-some ws₁ ss₁ x ws₂ y ne p q =
-      let f : length (mapOf m) ≡ k → ⊥ = λ z. ne (sym (mapOf-length m) ∙ z) in
-      record { run = rw (ne-eqb _ _ f, keepPlaced, p .run) (q .run ss₁); grown = q .grown }
+  keep-some ws₁ ss₁ x ws₂ y e p q = record { run = rw (sym is ∙ e, keepPlaced, p .run) (q .run ss₁); grown = q .grown }
 
 -- what settling asks, and an occurrence after an answer
 pub record Settling (ws ss : List ℕ) (n R h : ℕ) (m : Map) (x : Walked) : Type 0 where
@@ -74,16 +73,16 @@ pub record Settling (ws ss : List ℕ) (n R h : ℕ) (m : Map) (x : Walked) : Ty
   pub held : h < length ss
   pub since : Since n x
 
-pub settling-writes : (ws ss : List ℕ) (n R h : ℕ) (m : Map) (x : Walked) (r u : ℕ) → Settling ws ss n R h m x → x ≡ Root r u → Writing ws n u R m 0
-settling-writes ws ss n R h m x r u p e = record { room = p .room; since = p .since .since r u e; whole = p .whole; at = omega arith }
+pub settling-writes : (ws ss : List ℕ) (n R h : ℕ) (m : Map) (x : Walked) (r u : ℕ) → Settling ws ss n R h m x → x ≡ Root r u → Writing ws n u R m
+settling-writes ws ss n R h m x r u p e = record { room = p .room; since = p .since .since r u e; whole = p .whole }
 
 pub record Occurring (ws : List ℕ) (n R : ℕ) (m : Map) (x : Walked) : Type 0 where
   pub room : 4 * R ≤ length ws
   pub whole : Whole m
   pub since : Since n x
 
-pub occurring-writes : (ws : List ℕ) (n R : ℕ) (m : Map) (x : Walked) (r u : ℕ) → Occurring ws n R m x → x ≡ Root r u → Writing ws n u R m 0
-occurring-writes ws n R m x r u p e = record { room = p .room; since = p .since .since r u e; whole = p .whole; at = omega arith }
+pub occurring-writes : (ws : List ℕ) (n R : ℕ) (m : Map) (x : Walked) (r u : ℕ) → Occurring ws n R m x → x ≡ Root r u → Writing ws n u R m
+occurring-writes ws n R m x r u p e = record { room = p .room; since = p .since .since r u e; whole = p .whole }
 
 -- what narrowing asks
 pub record Narrowing (ws ss : List ℕ) (n u R h : ℕ) (m : Map) : Type 0 where
@@ -93,16 +92,17 @@ pub record Narrowing (ws ss : List ℕ) (n u R h : ℕ) (m : Map) : Type 0 where
   pub hole : 4 * h + 3 < length ws
   pub held : h < length ss
   pub context : Listed ws (fieldA ws h)
+  pub arity : length (elements ws (fieldA ws h)) ≡ m .len
 
 module _ (ws ss : List ℕ) (n u R h : ℕ) (m : Map) where
   pub narrowing-read : Narrowing ws ss n u R h m → 4 * h + 3 < length ws
   narrowing-read p = p .hole
 
-  pub narrowing-writes : Narrowing ws ss n u R h m → Writing ws n u R m 0
-  narrowing-writes p = record { room = p .room; since = p .since; whole = p .whole; at = omega arith }
+  pub narrowing-writes : Narrowing ws ss n u R h m → Writing ws n u R m
+  narrowing-writes p = record { room = p .room; since = p .since; whole = p .whole }
 
-  pub narrowing-list : (w : Record) → Narrowing ws ss n u R h m → IsRecord ws h w → Listed ws (w .a)
-  narrowing-list w p e = rw (e .a-is) (p .context)
+  pub narrowing-chooses : (w : Record) → Narrowing ws ss n u R h m → IsRecord ws h w → Choosing ws n u R (w .a) m
+  narrowing-chooses w p e = rw (e .a-is) (record { room = p .room; since = p .since; whole = p .whole; list = p .context; arity = p .arity })
 
   pub narrowing-room : (ws₁ : List ℕ) → Narrowing ws ss n u R h m → length ws₁ ≡ length ws → 4 * R ≤ length ws₁
   narrowing-room ws₁ p e = let g = p .room in omega arith

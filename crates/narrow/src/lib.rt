@@ -1,6 +1,6 @@
-// Occurrences written from a map, narrowing, and keeping the arguments that have a place.
+// Lists of noted records, occurrences written from a map, narrowing, and keeping the arguments that have a place.
 use places::Map;
-use places::value;
+use places::all_placed;
 use store::Walked;
 use store::push;
 use store::then_over;
@@ -14,45 +14,90 @@ use table::VA;
 use table::read;
 ghost use mathlib.Core.Path.{_≡_};
 ghost use mathlib.Core.Bool.{true, false};
-ghost use Prim.Native.Nat.{_+_};
-ghost use lib.ListN.{getD};
-ghost use Rattle.rules.specs.Words.{elements};
+ghost use Prim.Native.Nat.{_<_};
+ghost use lib.ListN.{take};
 ghost use Rattle.rules.specs.Store.{pushVariables, pushCells, pushOccurrence};
 ghost use Rattle.rules.specs.Walk.{narrow as narrowOf, keepPlaced};
-ghost use Rattle.laws.specs.Lists.{Listed};
 ghost use Rattle.store.specs.Said.{Does, Then, Does², Then²};
-ghost use Rattle.places.specs.Maps.{mapOf, side, sideFrom};
-ghost use Rattle.narrow.specs.Writing.{Writing};
-ghost use Rattle.narrow.specs.Context.{contexts};
+ghost use Rattle.places.specs.Maps.{mapOf, side};
+ghost use Rattle.narrow.specs.Cells.{Celling};
+ghost use Rattle.narrow.specs.Writing.{Writing, variableOf};
+ghost use Rattle.narrow.specs.Context.{Choosing, contexts};
 ghost use Rattle.narrow.specs.Narrowing.{settling, Settling, occurring, Occurring, Narrowing};
 
-// Bare variables from the i-th place on, then their cells from last to first.
-fn push_variables(
+// Cells for the first k of the noted records, last first.
+pub fn push_cells(
     table: &mut [u32],
     n: u32,
     used: u32,
     room: u32,
-    map: Map,
-    froms: bool,
-    i: usize,
+    noted: &[u32],
+    k: usize,
 ) -> Walked
-    requires { ⌜ Writing (now table) n used room map i ⌝ }
-    ensures { λ r. ⌜ Does n (pushVariables room (sideFrom froms map i)) (now (table .entry)) used (now (table .exit)) r ⌝ }
+    requires { ⌜ Celling (now table) n used room (now noted) k ⌝ }
+    ensures { λ r. ⌜ Does n (pushCells room (take k (now (noted .entry)))) (now (table .entry)) used (now (table .exit)) r ⌝ }
 {
-    if i == map.len {
-        return Walked::Root { root: NONE, used };
-    }
-    let v = value(map, froms, i);
-    match push(table, n, used, room, VA, v, NONE) {
-        Walked::Failed(e) => Walked::Failed(e),
-        Walked::Root {
-            root: x,
-            used: then,
-        } => {
-            let rest = push_variables(table, n, then, room, map, froms, i + 1);
-            then_over(table, n, room, CE, x, rest)
+    let mut i = k;
+    let mut list = NONE;
+    let mut taken = used;
+    while 0 < i {
+        i -= 1;
+        match push(table, n, taken, room, CE, noted[i], list) {
+            Walked::Failed(e) => {
+                return Walked::Failed(e);
+            }
+            Walked::Root { root, used: then } => {
+                list = root;
+                taken = then;
+            }
         }
     }
+    Walked::Root {
+        root: list,
+        used: taken,
+    }
+}
+
+// The variable that stands for a position with a place: the position, or the place.
+fn variable(froms: bool, position: usize, place: u32) -> u32
+    requires { ⌜ position < 16 ⌝ }
+    ensures { λ r. ⌜ variableOf froms position place ≡ r ⌝ }
+{
+    if froms {
+        return position as u32;
+    }
+    place
+}
+
+// Bare variables for the positions that have a place, in order, then their cells from last to first.
+fn push_variables(table: &mut [u32], n: u32, used: u32, room: u32, map: Map, froms: bool) -> Walked
+    requires { ⌜ Writing (now table) n used room map ⌝ }
+    ensures { λ r. ⌜ Does n (pushVariables room (side froms (mapOf false map))) (now (table .entry)) used (now (table .exit)) r ⌝ }
+{
+    let mut noted = [0u32; 16];
+    let mut k = 0;
+    let mut taken = used;
+    let len = map.len;
+    let mut i = 0;
+    while i < len {
+        let place = map.places[i];
+        let v = variable(froms, i, place);
+        i += 1;
+        if place == NONE {
+            continue;
+        }
+        match push(table, n, taken, room, VA, v, NONE) {
+            Walked::Failed(e) => {
+                return Walked::Failed(e);
+            }
+            Walked::Root { root, used: then } => {
+                noted[k] = root;
+                k += 1;
+                taken = then;
+            }
+        }
+    }
+    push_cells(table, n, taken, room, &noted, k)
 }
 
 // The hole applied to the variables that the map leads from, or to.
@@ -65,49 +110,35 @@ pub fn push_occurrence(
     map: Map,
     froms: bool,
 ) -> Walked
-    requires { ⌜ Writing (now table) n used room map 0 ⌝ }
-    ensures { λ r. ⌜ Does n (pushOccurrence room (hole .0) (side froms (mapOf map))) (now (table .entry)) used (now (table .exit)) r ⌝ }
+    requires { ⌜ Writing (now table) n used room map ⌝ }
+    ensures { λ r. ⌜ Does n (pushOccurrence room (hole .0) (side froms (mapOf false map))) (now (table .entry)) used (now (table .exit)) r ⌝ }
 {
-    let xs = push_variables(table, n, used, room, map, froms, 0);
+    let xs = push_variables(table, n, used, room, map, froms);
     then_over(table, n, room, HA, hole.0, xs)
 }
 
-// The k-th element of a list.
-fn nth(table: &[u32], list: u32, k: u32) -> u32
-    requires { ⌜ Listed (now table) list ⌝ }
-    ensures { λ r. ⌜ getD (elements (now (table .entry)) list) k 0 ≡ r ⌝ }
+// Context cells for the positions that have a place, last first.
+fn push_context(table: &mut [u32], n: u32, used: u32, room: u32, context: u32, map: Map) -> Walked
+    requires { ⌜ Choosing (now table) n used room context map ⌝ }
+    ensures { λ r. ⌜ Does n (pushCells room (contexts (now (table .entry)) context (side true (mapOf false map)))) (now (table .entry)) used (now (table .exit)) r ⌝ }
 {
-    if list == NONE {
-        return 0;
+    let mut noted = [0u32; 16];
+    let mut k = 0;
+    let len = map.len;
+    let mut i = 0;
+    let mut list = context;
+    while i < len {
+        let cell = read(table, list);
+        let place = map.places[i];
+        i += 1;
+        list = cell.b;
+        if place == NONE {
+            continue;
+        }
+        noted[k] = cell.a;
+        k += 1;
     }
-    let cell = read(table, list);
-    if k == 0 {
-        return cell.a;
-    }
-    nth(table, cell.b, k - 1)
-}
-
-// Context cells for the positions from the i-th place on, last first.
-fn push_cells(
-    table: &mut [u32],
-    n: u32,
-    used: u32,
-    room: u32,
-    context: u32,
-    map: Map,
-    i: usize,
-) -> Walked
-    requires { ⌜ Writing (now table) n used room map i ⌝ }
-    requires { ⌜ Listed (now table) context ⌝ }
-    ensures { λ r. ⌜ Does n (pushCells room (contexts (now (table .entry)) context (sideFrom true map i))) (now (table .entry)) used (now (table .exit)) r ⌝ }
-{
-    if i == map.len {
-        return Walked::Root { root: NONE, used };
-    }
-    let k = value(map, true, i);
-    let x = nth(table, context, k);
-    let rest = push_cells(table, n, used, room, context, map, i + 1);
-    then_over(table, n, room, CE, x, rest)
+    push_cells(table, n, used, room, &noted, k)
 }
 
 // The new hole at the kept positions becomes the old hole's solution.
@@ -121,7 +152,7 @@ fn then_settle(
     walked: Walked,
 ) -> Walked
     requires { ⌜ Settling (now table) (now solutions) n room (hole .0) kept walked ⌝ }
-    ensures { λ r. ⌜ Then² n (settling room (hole .0) (side true (mapOf kept))) (now (table .entry)) (now (solutions .entry)) walked (now (table .exit)) (now (solutions .exit)) r ⌝ }
+    ensures { λ r. ⌜ Then² n (settling room (hole .0) (side true (mapOf false kept))) (now (table .entry)) (now (solutions .entry)) walked (now (table .exit)) (now (solutions .exit)) r ⌝ }
 {
     match walked {
         Walked::Failed(e) => Walked::Failed(e),
@@ -161,10 +192,10 @@ pub fn narrow(
     kept: Map,
 ) -> Walked
     requires { ⌜ Narrowing (now table) (now solutions) n used room (hole .0) kept ⌝ }
-    ensures { λ r. ⌜ Does² n (narrowOf room (hole .0) (side true (mapOf kept))) (now (table .entry)) (now (solutions .entry)) used (now (table .exit)) (now (solutions .exit)) r ⌝ }
+    ensures { λ r. ⌜ Does² n (narrowOf room (hole .0) (side true (mapOf false kept))) (now (table .entry)) (now (solutions .entry)) used (now (table .exit)) (now (solutions .exit)) r ⌝ }
 {
     let old = read(table, hole.0);
-    let cells = push_cells(table, n, used, room, old.a, kept, 0);
+    let cells = push_context(table, n, used, room, old.a, kept);
     let new = then_under(table, n, room, HO, old.b, cells);
     then_settle(table, solutions, n, room, hole, kept, new)
 }
@@ -172,7 +203,7 @@ pub fn narrow(
 // An occurrence of the hole that came out, or the failure.
 fn then_occurrence(table: &mut [u32], n: u32, room: u32, kept: Map, walked: Walked) -> Walked
     requires { ⌜ Occurring (now table) n room kept walked ⌝ }
-    ensures { λ r. ⌜ Then n (occurring room (side false (mapOf kept))) (now (table .entry)) walked (now (table .exit)) r ⌝ }
+    ensures { λ r. ⌜ Then n (occurring room (side false (mapOf false kept))) (now (table .entry)) walked (now (table .exit)) r ⌝ }
 {
     match walked {
         Walked::Failed(e) => Walked::Failed(e),
@@ -196,13 +227,12 @@ pub fn keep_placed(
     used: u32,
     room: u32,
     hole: Hole,
-    arity: usize,
     kept: Map,
 ) -> Walked
     requires { ⌜ Narrowing (now table) (now solutions) n used room (hole .0) kept ⌝ }
-    ensures { λ r. ⌜ Does² n (keepPlaced room (hole .0) arity (mapOf kept)) (now (table .entry)) (now (solutions .entry)) used (now (table .exit)) (now (solutions .exit)) r ⌝ }
+    ensures { λ r. ⌜ Does² n (keepPlaced room (hole .0) (kept .len) (mapOf false kept)) (now (table .entry)) (now (solutions .entry)) used (now (table .exit)) (now (solutions .exit)) r ⌝ }
 {
-    if kept.len == arity {
+    if all_placed(kept) {
         return push_occurrence(table, n, used, room, hole, kept, false);
     }
     let new = narrow(table, solutions, n, used, room, hole, kept);

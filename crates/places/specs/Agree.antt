@@ -1,90 +1,134 @@
 -- The positions at which two lists of arguments agree.
-use Prim.Native.Nat.{ℕ, _+_, _-_, _*_, _<_}
+use Prim.Native.Nat.{ℕ, suc, _+_, _*_, _<_, _≤_}
 use mathlib.Core.Path.{_≡_, refl, sym, ap, _∙_}
-use mathlib.Core.List.{List, [], _∷_, _++_, map, append-nil, append-assoc}
-use lib.ListN.{length}
-use mir.Syntax.{w32}
-use mir.Val.{Fits}
+use mathlib.Core.List.{List, [], _∷_, map}
+use mathlib.Core.Bool.{true, false}
+use native.Mathlib.Omega.{arith}
+use native.Mathlib.Decide.{ℕ-discrete}
+use native.Mathlib.Numerals.{add-one}
+use lib.ListN.{length, getD, drop, set}
+use lib.Seq.{drop-cons, drop-drop, getD-drop}
+use lib.Dec.{eqb}
 use borrow.Author.Tests.{eq-eqb, ne-eqb}
 use Rattle.table.specs.declared.Record.{Record}
 use Rattle.places.specs.declared.Map.{Map}
 use Rattle.table.specs.Reading.{IsRecord}
-use Rattle.rules.specs.Words.{NONE, fieldA}
+use Rattle.rules.specs.Words.{NONE, fieldA, fieldB, elements}
 use Rattle.rules.specs.Map.{Map as Pairs, sources}
 use Rattle.rules.specs.Machine.{agreeing}
 use Rattle.laws.specs.Lists.{size, Listed, elements-none, elements-cell}
-use Rattle.places.specs.Maps.{mapOf, added, mapOf-added, Whole}
-use Rattle.places.specs.Lists.{to-cell, to-elem, to-rest, fall-rest, varsOf}
-use Rattle.places.specs.Numbered.{Numbering, numbering-add, numbering-next, numbering-rest, numbering-skip}
+use Rattle.places.specs.Maps.{leads, leads-none, leads-some, mapOf, Whole, noPlace}
+use Rattle.places.specs.Lists.{to-cell, to-elem, to-rest, Counts, varsOf}
+use Rattle.places.specs.Filling.{fill, Filling, filling-first, filling-cell, filling-room, filling-elem, filling-falls, filling-more, filling-end}
 
--- what comparing asks: both lists can be read, and the map that is made stays within 16
-pub record Comparing (ws : List ℕ) (l r j : ℕ) (acc : Map) : Type 0 where
-  pub one : Numbering ws l j acc
-  pub two : Listed ws r
+-- what comparing asks: two lists that can be read, of the same length
+pub record Comparing (ws : List ℕ) (l r : ℕ) : Type 0 where
+  pub left : Counts ws l
+  pub right : Listed ws r
+  pub alike : length (elements ws l) ≡ length (elements ws r)
 
--- the map made leads from what there was, and from the agreeing positions
-pub record Agrees (ws : List ℕ) (l r j : ℕ) (acc x : Map) : Type 0 where
-  pub run : sources (mapOf x) ≡ sources (mapOf acc) ++ agreeing j (varsOf ws l) (varsOf ws r)
+-- the map leads from the agreeing positions, and has a position for each argument
+pub record Agrees (ws : List ℕ) (l r : ℕ) (x : Map) : Type 0 where
+  pub run : sources (mapOf false x) ≡ agreeing 0 (varsOf ws l) (varsOf ws r)
+  pub len : x .len ≡ length (elements ws l)
   pub whole : Whole x
 
-sources-added : (m : Map) (v w : ℕ) → length (m .places) ≡ 16 → m .len < 16 → sources (mapOf (added m v w)) ≡ sources (mapOf m) ++ (v ∷ [])
-sources-added m v w a h = rw (mapOf-added m v w a h) (map-append (mapOf m) ((v, w) ∷ []))
+-- position j, or NONE where the two differ
+unfoldable pub agreed : ℕ → ℕ → ℕ → ℕ
+agreed j x y = elim (eqb x y) [ true ↦ j | false ↦ NONE ]
+
+pub agreed-same : (j x y : ℕ) → x ≡ y → agreed j x y ≡ j
+unfolding agreed
+agreed-same j x y e = rw (eq-eqb _ _ e, agreed)
+
+pub agreed-not : (j x y : ℕ) → (x ≡ y → ⊥) → agreed j x y ≡ NONE
+unfolding agreed
+agreed-not j x y n = rw (ne-eqb _ _ n, agreed)
+
+-- what is filled in for list l along list r
+abbrev pub agreeAt : List ℕ → ℕ → ℕ → ℕ → ℕ
+agreeAt ws r j x = agreed j (fieldA ws x) (fieldA ws (getD (elements ws r) j 0))
+
+leads-agreeing : (ws : List ℕ) (r j : ℕ) (xs : List ℕ) → j + length xs ≡ length (elements ws r) → j + length xs ≤ 16
+    → sources (leads j (fill (agreeAt ws r) j xs)) ≡ agreeing j (map (λ x. fieldA ws x) xs) (map (λ y. fieldA ws y) (drop j (elements ws r)))
+unfolding leads fill agreeing
+leads-agreeing ws r j [] e h = refl
+leads-agreeing ws r j (x ∷ xs) e h = go (ℕ-discrete (fieldA ws x) (fieldA ws (getD (elements ws r) j 0))) (leads-agreeing ws r (j + 1) xs (omega arith) (omega arith))
   where
-    map-append : (xs ys : Pairs) → sources (xs ++ ys) ≡ sources xs ++ sources ys
-    map-append [] ys = refl
-    map-append (x ∷ xs) ys = ap (λ (l : List ℕ). x .0 ∷ l) (map-append xs ys)
+    at-j : drop j (elements ws r) ≡ getD (elements ws r) j 0 ∷ drop (j + 1) (elements ws r)
+    at-j = let k : j < length (elements ws r) = omega arith in rw (add-one j, drop-cons (elements ws r) j 0 k)
 
-module _ (ws : List ℕ) (l r j : ℕ) (acc : Map) where
-  pub agree-left : l ≡ NONE → Comparing ws l r j acc → Agrees ws l r j acc acc
-  unfolding agreeing
-  agree-left e h = record { run = rw (elements-none ws l e) (sym (append-nil _)); whole = h .one .whole }
+    go : Dec (fieldA ws x ≡ fieldA ws (getD (elements ws r) j 0))
+        → sources (leads (j + 1) (fill (agreeAt ws r) (j + 1) xs)) ≡ agreeing (j + 1) (map (λ y. fieldA ws y) xs) (map (λ y. fieldA ws y) (drop (j + 1) (elements ws r)))
+        → sources (leads j (fill (agreeAt ws r) j (x ∷ xs))) ≡ agreeing j (fieldA ws x ∷ map (λ y. fieldA ws y) xs) (map (λ y. fieldA ws y) (drop j (elements ws r)))
+    go (yes q) ih =
+        let s = agreed-same j (fieldA ws x) (fieldA ws (getD (elements ws r) j 0)) q in
+        let n : agreeAt ws r j x ≡ NONE → ⊥ = omega arith in
+        ap (λ (m : Pairs). sources m) (leads-some j (agreeAt ws r j x) (fill (agreeAt ws r) (j + 1) xs) n) ∙ rw (at-j, eq-eqb _ _ q, agreeing, ih)
+    go (no q) ih =
+        let s = agreed-not j (fieldA ws x) (fieldA ws (getD (elements ws r) j 0)) q in
+        ap (λ (m : Pairs). sources m) (leads-none j (agreeAt ws r j x) (fill (agreeAt ws r) (j + 1) xs) s) ∙ rw (at-j, ne-eqb _ _ q, agreeing, ih)
 
-  pub agree-right : (l ≡ NONE → ⊥) → r ≡ NONE → Comparing ws l r j acc → Agrees ws l r j acc acc
-  unfolding agreeing
-  agree-right n e h = record { run = rw (elements-cell ws l n (h .one .list), elements-none ws r e) (sym (append-nil _)); whole = h .one .whole }
+-- while comparing: the left list is filled in, and the right list goes along
+pub record Along (ws : List ℕ) (left right : ℕ) (places : List ℕ) (j l r : ℕ) : Type 0 where
+  pub fills : Filling (agreeAt ws right) ws left places j l
+  pub list : Listed ws r
+  pub rest : elements ws r ≡ drop j (elements ws right)
+  pub alike : length (elements ws l) ≡ length (elements ws r)
 
-  pub comparing-left : (l ≡ NONE → ⊥) → Comparing ws l r j acc → 4 * l + 3 < length ws
-  comparing-left n h = to-cell ws l n (h .one .list)
+pub along-first : (ws : List ℕ) (left right : ℕ) (m : Map) → Comparing ws left right → noPlace ≡ m → Along ws left right (m .places) 0 left right
+along-first ws left right m h e = record { fills = filling-first (agreeAt ws right) ws left m (h .left) e; list = h .right; rest = refl; alike = h .alike }
 
-  pub comparing-right : (r ≡ NONE → ⊥) → Comparing ws l r j acc → 4 * r + 3 < length ws
-  comparing-right n h = to-cell ws r n (h .two)
+module _ (ws : List ℕ) (left right : ℕ) (places : List ℕ) (j l r : ℕ) (h : Along ws left right places j l r) where
+  pub along-end : l ≡ NONE → Comparing ws left right → Agrees ws left right (record { places = places; len = j })
+  unfolding mapOf
+  along-end e c =
+      let f = filling-end (agreeAt ws right) ws left places j l (h .fills) e in
+      let k = c .left .few in
+      let a = c .alike in
+      record { run = rw (f .places) (leads-agreeing ws right 0 (elements ws left) (omega arith) (omega arith)); len = f .len; whole = f .whole }
 
-  pub comparing-one : (c : Record) → (l ≡ NONE → ⊥) → IsRecord ws l c → Comparing ws l r j acc → 4 * (c .a) + 3 < length ws
-  comparing-one c n e h = to-elem ws l c n e (h .one .list)
+  module _ (n : l ≡ NONE → ⊥) where
+    pub along-left : 4 * l + 3 < length ws
+    along-left = filling-cell (agreeAt ws right) ws left places j l (h .fills) n
 
-  pub comparing-two : (c : Record) → (r ≡ NONE → ⊥) → IsRecord ws r c → Comparing ws l r j acc → 4 * (c .a) + 3 < length ws
-  comparing-two c n e h = to-elem ws r c n e (h .two)
+    pub along-room : j < 16
+    along-room = filling-room (agreeAt ws right) ws left places j l (h .fills) n
 
-  pub comparing-add : (l ≡ NONE → ⊥) → Comparing ws l r j acc → acc .len < 16
-  comparing-add n h = numbering-add ws l j acc n (h .one)
+    -- the right list has not ended
+    more : r ≡ NONE → ⊥
+    more e =
+        let z : length (elements ws r) ≡ 0 = rw (elements-none ws r e) in
+        let a = h .alike in
+        let c : length (elements ws l) ≡ suc (length (elements ws (fieldB ws l))) = rw (elements-cell ws l n (h .fills .list)) in
+        omega arith
 
-  pub comparing-next : (l ≡ NONE → ⊥) → Comparing ws l r j acc → Fits w32 (j + 1)
-  comparing-next n h = numbering-next ws l j acc n (h .one)
+    pub along-right : 4 * r + 3 < length ws
+    along-right = to-cell ws r more (h .list)
 
-  pub comparing-fall : (c : Record) (t : ℕ) → size l ≡ t → (l ≡ NONE → ⊥) → IsRecord ws l c → Comparing ws l r j acc → size (c .b) < t
-  comparing-fall c t z n e h = fall-rest ws l c t z n e (h .one .list)
+    module _ (c d : Record) (e : IsRecord ws l c) (f : IsRecord ws r d) where
+      pub along-one : 4 * (c .a) + 3 < length ws
+      along-one = filling-elem (agreeAt ws right) ws left places j l (h .fills) n c e
 
-  pub comparing-takes : (c d : Record) (v w : ℕ) (acc₁ : Map) → (l ≡ NONE → ⊥) → (r ≡ NONE → ⊥) → IsRecord ws l c → IsRecord ws r d → Comparing ws l r j acc → added acc v w ≡ acc₁
-      → Comparing ws (c .b) (d .b) (j + 1) acc₁
-  comparing-takes c d v w acc₁ n n₁ e e₁ h a = record { one = numbering-rest ws l j acc c v w acc₁ n e (h .one) a; two = to-rest ws r d n₁ e₁ (h .two) }
+      pub along-two : 4 * (d .a) + 3 < length ws
+      along-two = to-elem ws r d more f (h .list)
 
-  pub comparing-skip : (c d : Record) → (l ≡ NONE → ⊥) → (r ≡ NONE → ⊥) → IsRecord ws l c → IsRecord ws r d → Comparing ws l r j acc → Comparing ws (c .b) (d .b) (j + 1) acc
-  comparing-skip c d n n₁ e e₁ h = record { one = numbering-skip ws l j acc c n e (h .one); two = to-rest ws r d n₁ e₁ (h .two) }
+      pub along-falls : size (c .b) < size l
+      along-falls = filling-falls (agreeAt ws right) ws left places j l (h .fills) n c e
 
-  module _ (c d : Record) (x y : ℕ) (n : l ≡ NONE → ⊥) (n₁ : r ≡ NONE → ⊥) (e : IsRecord ws l c) (e₁ : IsRecord ws r d) (ex : fieldA ws (c .a) ≡ x) (ey : fieldA ws (d .a) ≡ y)
-      (h : Comparing ws l r j acc) where
-    left-is : varsOf ws l ≡ x ∷ varsOf ws (c .b)
-    left-is = rw (elements-cell ws l n (h .one .list), e .b-is, ← ex, e .a-is)
-
-    right-is : varsOf ws r ≡ y ∷ varsOf ws (d .b)
-    right-is = rw (elements-cell ws r n₁ (h .two), e₁ .b-is, ← ey, e₁ .a-is)
-
-    pub agree-takes : (acc₁ z : Map) → x ≡ y → added acc j x ≡ acc₁ → Agrees ws (c .b) (d .b) (j + 1) acc₁ z → Agrees ws l r j acc z
-    unfolding agreeing
-    agree-takes acc₁ z q a g =
-        let s : sources (mapOf acc₁) ≡ sources (mapOf acc) ++ (j ∷ []) = rw (← a) (sources-added acc j x (h .one .whole .all) (comparing-add n h)) in
-        record { run = rw (left-is, right-is, eq-eqb _ _ q, agreeing) (g .run ∙ rw s (append-assoc (sources (mapOf acc)) (j ∷ []) _)); whole = g .whole }
-
-    pub agree-skips : (z : Map) → (x ≡ y → ⊥) → Agrees ws (c .b) (d .b) (j + 1) acc z → Agrees ws l r j acc z
-    unfolding agreeing
-    agree-skips z q g = record { run = rw (left-is, right-is, ne-eqb _ _ q, agreeing) (g .run); whole = g .whole }
+      pub along-more : (x y v : ℕ) → fieldA ws (c .a) ≡ x → fieldA ws (d .a) ≡ y → agreed j x y ≡ v → Along ws left right (set places j v) (j + 1) (c .b) (d .b)
+      along-more x y v p q s =
+          let ys = elements ws right in
+          let cl = elements-cell ws l n (h .fills .list) in
+          let cr = elements-cell ws r more (h .list) in
+          let k : drop j ys ≡ d .a ∷ elements ws (d .b) = sym (h .rest) ∙ rw (f .a-is, f .b-is) cr in
+          let t : drop (j + 1) ys ≡ elements ws (d .b) = sym (drop-drop 1 j ys) ∙ ap (λ (z : List ℕ). drop 1 z) k in
+          let z : j + 0 ≡ j = omega arith in
+          let g : getD ys j 0 ≡ d .a = (rw z at (sym (getD-drop j ys 0 0))) ∙ ap (λ (u : List ℕ). getD u 0 0) k in
+          let al : suc (length (elements ws (c .b))) ≡ suc (length (elements ws (d .b))) = rw (e .b-is, f .b-is) (sym (ap length cl) ∙ h .alike ∙ ap length cr) in
+          record {
+            fills = filling-more (agreeAt ws right) ws left places j l (h .fills) n c e v (rw (g, p, q) s);
+            list = to-rest ws r d more f (h .list);
+            rest = sym t;
+            alike = omega arith;
+          }

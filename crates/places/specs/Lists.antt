@@ -1,15 +1,13 @@
--- Lists in the table, cell by cell: what reading them asks, and how many elements they have.
-use Prim.Native.Nat.{ℕ, _+_, _-_, _*_, _<_, _≤_}
+-- Lists in the table, cell by cell: what reading them asks.
+use Prim.Native.Nat.{ℕ, _+_, _*_, _<_, _≤_}
 use mathlib.Core.Path.{_≡_}
 use mathlib.Core.List.{List, _∷_, map}
 use native.Mathlib.Omega.{arith}
 use lib.ListN.{length}
-use mir.Syntax.{w64}
-use mir.Val.{Fits}
 use Rattle.table.specs.declared.Record.{Record}
 use Rattle.table.specs.Reading.{IsRecord}
 use Rattle.rules.specs.Words.{NONE, fieldA, fieldB, elements}
-use Rattle.laws.specs.Lists.{size, size-real, size-below, Listed, listed-rest, elements-none, elements-cell}
+use Rattle.laws.specs.Lists.{size, size-real, size-below, Listed, listed-rest, elements-cell}
 
 -- what reading a cell, its element and its rest asks
 module _ (ws : List ℕ) (l : ℕ) where
@@ -31,7 +29,7 @@ module _ (ws : List ℕ) (l : ℕ) where
       let y = size-real l n in
       rw (e .b-is) (omega arith)
 
--- how many elements
+-- a list of at most 16 elements that can be read
 pub record Counts (ws : List ℕ) (l : ℕ) : Type 0 where
   pub list : Listed ws l
   pub few : length (elements ws l) ≤ 16
@@ -41,15 +39,6 @@ module _ (ws : List ℕ) (l : ℕ) where
   counts-rest w n e h =
       let c : length (fieldA ws l ∷ elements ws (fieldB ws l)) ≤ 16 = rw (elements-cell ws l n (h .list)) at (h .few) in
       record { list = to-rest ws l w n e (h .list); few = rw (e .b-is) (omega arith) }
-
-  pub count-none : l ≡ NONE → length (elements ws l) ≡ 0
-  count-none e = rw (elements-none ws l e)
-
-  pub count-more : (w : Record) (k : ℕ) → (l ≡ NONE → ⊥) → IsRecord ws l w → Counts ws l → length (elements ws (w .b)) ≡ k → length (elements ws l) ≡ k + 1
-  count-more w k n e h p = let q : length (elements ws (fieldB ws l)) ≡ k = rw (← e .b-is) p in rw (elements-cell ws l n (h .list)) (omega arith)
-
-  pub count-fits : (w : Record) (k : ℕ) → (l ≡ NONE → ⊥) → IsRecord ws l w → Counts ws l → length (elements ws (w .b)) ≡ k → Fits w64 (k + 1)
-  count-fits w k n e h p = let q = count-more w k n e h p in let f = h .few in record { fits = omega arith }
 
 -- the variable numbers of a list of bare variables
 abbrev pub varsOf : List ℕ → ℕ → List ℕ

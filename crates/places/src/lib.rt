@@ -1,188 +1,216 @@
-// The partial map of the walk by value: at most 16 places, what they say under lambdas, and the maps that a hole's arguments give.
+// The partial map of the walk by value: a place for each position of an argument list, what it says under lambdas, and the maps that a hole's arguments give.
 use rules::Found;
 use table::NONE;
 use table::Variable;
 use table::read;
 ghost use mathlib.Core.Path.{_≡_};
+ghost use mathlib.Core.Bool.{true, false};
 ghost use Prim.Native.Nat.{_+_, _*_, _<_};
 ghost use lib.ListN.{length};
-ghost use Rattle.rules.specs.Words.{elements, fieldA};
+ghost use lib.Dec.{eqb};
+ghost use Rattle.rules.specs.Words.{fieldA};
 ghost use Rattle.rules.specs.Map.{lookup, placeOf};
-ghost use Rattle.places.specs.Maps.{mapOf, Whole, added, noPlace, value as valueOf, nth as nthPlace};
-ghost use Rattle.places.specs.Looking.{Looks};
+ghost use Rattle.places.specs.Maps.{mapOf, Whole, noPlace};
+ghost use Rattle.places.specs.Looking.{Looks, seat};
 ghost use Rattle.places.specs.Lists.{Counts};
-ghost use Rattle.places.specs.Follow.{Following, Follows, Followed};
-ghost use Rattle.places.specs.Numbered.{Numbering, Numbered, positions as positionsOf, variables as variablesOf};
-ghost use Rattle.places.specs.Agree.{Comparing, Agrees};
+ghost use Rattle.places.specs.Arguments.{Arguments, Ordered};
+ghost use Rattle.places.specs.Follow.{Followed};
+ghost use Rattle.places.specs.Agree.{Comparing, Agrees, agreed as agreedOf};
 
-// A place of the map: variable `from` goes to `to`.
-pub struct Place {
-    pub from: u32,
-    pub to: u32,
-}
-
-// The partial map: so many of 16 places.
+// The partial map: so many of 16 places, one for each position of an argument list; NONE is no place. It is read from places to
+// positions for the arguments of the solved hole, and from positions to places below a solved hole.
 pub struct Map {
-    pub places: [Place; 16],
+    pub places: [u32; 16],
     pub len: usize,
 }
 
 // The map without a place.
-pub fn empty() -> Map
+fn empty() -> Map
     ensures { λ r. ⌜ noPlace ≡ r ⌝ }
 {
     Map {
-        places: [Place { from: 0, to: 0 }; 16],
+        places: [NONE; 16],
         len: 0,
     }
 }
 
-// One more place.
-pub fn add(map: Map, from: u32, to: u32) -> Map
-    requires { ⌜ map .len < 16 ⌝ }
-    ensures { λ r. ⌜ added map from to ≡ r ⌝ }
-{
-    let mut m = map;
-    let i = m.len;
-    m.places[i] = Place { from, to };
-    m.len = i + 1;
-    m
-}
-
-// Where the map leads a variable.
-pub fn look(map: Map, v: Variable) -> Found
+// Which position has this place.
+fn position_of(map: Map, place: u32) -> Found
     requires { ⌜ Whole map ⌝ }
-    ensures { λ r. ⌜ lookup (mapOf map) (v .0) ≡ r ⌝ }
+    ensures { λ r. ⌜ lookup (mapOf true map) place ≡ r ⌝ }
 {
-    let mut i = 0;
     let n = map.len;
+    let mut i = 0;
     while i < n {
-        let p = map.places[i];
-        if p.from == v.0 {
-            return Found::At(p.to);
+        if map.places[i] == place {
+            return Found::At(i as u32);
         }
         i += 1;
     }
     Found::Nowhere
 }
 
+// Which place this position has.
+fn place_at(map: Map, position: usize) -> Found
+    requires { ⌜ Whole map ⌝ }
+    ensures { λ r. ⌜ lookup (mapOf false map) position ≡ r ⌝ }
+{
+    if position >= map.len {
+        return Found::Nowhere;
+    }
+    let w = map.places[position];
+    if w == NONE {
+        return Found::Nowhere;
+    }
+    Found::At(w)
+}
+
+// Where the map leads a variable: from places to positions on the side of a pair, `above` all solved holes, else from positions to places.
+fn look(map: Map, above: bool, v: Variable) -> Found
+    requires { ⌜ Whole map ⌝ }
+    ensures { λ r. ⌜ lookup (mapOf above map) (v .0) ≡ r ⌝ }
+{
+    if above {
+        return position_of(map, v.0);
+    }
+    place_at(map, v.0 as usize)
+}
+
 // The same under `depth` lambdas: variables bound inside stay.
-pub fn place_of(map: Map, depth: u32, v: Variable) -> Found
-    requires { ⌜ Looks map depth ⌝ }
-    ensures { λ r. ⌜ placeOf (mapOf map) depth (v .0) ≡ r ⌝ }
+pub fn place_of(map: Map, above: bool, depth: u32, v: Variable) -> Found
+    requires { ⌜ Looks above map depth ⌝ }
+    ensures { λ r. ⌜ placeOf (mapOf above map) depth (v .0) ≡ r ⌝ }
 {
     if v.0 < depth {
         return Found::At(v.0);
     }
-    let Found::At(to) = look(map, Variable(v.0 - depth)) else {
+    let Found::At(to) = look(map, above, Variable(v.0 - depth)) else {
         return Found::Nowhere;
     };
     Found::At(to + depth)
 }
 
-// One of the two numbers of the i-th place.
-pub fn value(map: Map, froms: bool, i: usize) -> u32
-    requires { ⌜ i < 16 ⌝ }
-    ensures { λ r. ⌜ valueOf froms (nthPlace (map .places) i) ≡ r ⌝ }
+// The place of a variable, or NONE.
+fn place_or_none(map: Map, above: bool, depth: u32, v: Variable) -> u32
+    requires { ⌜ Looks above map depth ⌝ }
+    ensures { λ r. ⌜ seat (placeOf (mapOf above map) depth (v .0)) ≡ r ⌝ }
 {
-    let p = map.places[i];
-    if froms {
-        return p.from;
-    }
-    p.to
-}
-
-// How many elements a list has.
-pub fn count(table: &[u32], list: u32) -> usize
-    requires { ⌜ Counts (now table) list ⌝ }
-    ensures { λ r. ⌜ length (elements (now (table .entry)) list) ≡ r ⌝ }
-{
-    if list == NONE {
-        return 0;
-    }
-    let cell = read(table, list);
-    count(table, cell.b) + 1
+    let Found::At(to) = place_of(map, above, depth, v) else {
+        return NONE;
+    };
+    to
 }
 
 // The variable that a hole's argument names.
-pub fn variable_of(table: &[u32], at: u32) -> Variable
+fn variable_of(table: &[u32], at: u32) -> Variable
     requires { ⌜ 4 * at + 3 < length (now table) ⌝ }
     ensures { λ v. ⌜ fieldA (now (table .entry)) at ≡ v .0 ⌝ }
 {
     Variable(table[4 * (at as usize) + 1])
 }
 
-// The map that follows a list of arguments, from position j on, after what there is.
-fn follow_on(table: &[u32], map: Map, depth: u32, list: u32, j: u32, acc: Map) -> Map
-    requires { ⌜ Following (now table) map depth list j acc ⌝ }
-    ensures { λ r. ⌜ Follows (now (table .entry)) map depth list j acc r ⌝ }
+// The variables of a hole's arguments, each at its position.
+pub fn arguments(table: &[u32], list: u32) -> Map
+    requires { ⌜ Counts (now table) list ⌝ }
+    ensures { λ r. ⌜ Arguments (now (table .entry)) list r ⌝ }
 {
-    if list == NONE {
-        return acc;
+    let mut m = empty();
+    let mut j = 0;
+    let mut at = list;
+    while at != NONE {
+        let cell = read(table, at);
+        let x = variable_of(table, cell.a);
+        m.places[j] = x.0;
+        j += 1;
+        at = cell.b;
     }
-    let cell = read(table, list);
-    let x = variable_of(table, cell.a);
-    let Found::At(to) = place_of(map, depth, x) else {
-        return follow_on(table, map, depth, cell.b, j + 1, acc);
-    };
-    let more = add(acc, j, to);
-    follow_on(table, map, depth, cell.b, j + 1, more)
+    m.len = j;
+    m
+}
+
+// Each position of a context led to itself: its variables in order.
+pub fn in_order(table: &[u32], context: u32) -> Map
+    requires { ⌜ Counts (now table) context ⌝ }
+    ensures { λ r. ⌜ Ordered (now (table .entry)) context r ⌝ }
+{
+    let mut m = empty();
+    let mut j = 0;
+    let mut at = context;
+    while at != NONE {
+        let cell = read(table, at);
+        m.places[j] = j as u32;
+        j += 1;
+        at = cell.b;
+    }
+    m.len = j;
+    m
 }
 
 // The map that follows a hole's arguments: from each position whose argument has a place, to that place.
-pub fn follow(table: &[u32], map: Map, depth: u32, list: u32) -> Map
-    requires { ⌜ Counts (now table) list × Looks map depth ⌝ }
-    ensures { λ r. ⌜ Followed (now (table .entry)) map depth list r ⌝ }
+pub fn follow(table: &[u32], map: Map, above: bool, depth: u32, list: u32) -> Map
+    requires { ⌜ Counts (now table) list × Looks above map depth ⌝ }
+    ensures { λ r. ⌜ Followed (now (table .entry)) above map depth list r ⌝ }
 {
-    follow_on(table, map, depth, list, 0, empty())
+    let mut m = empty();
+    let mut j = 0;
+    let mut at = list;
+    while at != NONE {
+        let cell = read(table, at);
+        let x = variable_of(table, cell.a);
+        m.places[j] = place_or_none(map, above, depth, x);
+        j += 1;
+        at = cell.b;
+    }
+    m.len = j;
+    m
 }
 
-// From each variable of a list to its position, counted from j, after what there is.
-pub fn to_positions(table: &[u32], list: u32, j: u32, acc: Map) -> Map
-    requires { ⌜ Numbering (now table) list j acc ⌝ }
-    ensures { λ r. ⌜ Numbered positionsOf (now (table .entry)) list j acc r ⌝ }
+// A position at which two arguments agree, or NONE.
+fn agreed(j: usize, x: Variable, y: Variable) -> u32
+    requires { ⌜ j < 16 ⌝ }
+    ensures { λ r. ⌜ agreedOf j (x .0) (y .0) ≡ r ⌝ }
 {
-    if list == NONE {
-        return acc;
-    }
-    let cell = read(table, list);
-    let x = variable_of(table, cell.a);
-    let more = add(acc, x.0, j);
-    to_positions(table, cell.b, j + 1, more)
-}
-
-// From each position, counted from j, to the variable there, after what there is.
-pub fn to_variables(table: &[u32], list: u32, j: u32, acc: Map) -> Map
-    requires { ⌜ Numbering (now table) list j acc ⌝ }
-    ensures { λ r. ⌜ Numbered variablesOf (now (table .entry)) list j acc r ⌝ }
-{
-    if list == NONE {
-        return acc;
-    }
-    let cell = read(table, list);
-    let x = variable_of(table, cell.a);
-    let more = add(acc, j, x.0);
-    to_variables(table, cell.b, j + 1, more)
-}
-
-// The positions, counted from j, at which two lists of arguments agree, each led to the variable there, after what there is.
-pub fn agreeing(table: &[u32], left: u32, right: u32, j: u32, acc: Map) -> Map
-    requires { ⌜ Comparing (now table) left right j acc ⌝ }
-    ensures { λ r. ⌜ Agrees (now (table .entry)) left right j acc r ⌝ }
-{
-    if left == NONE {
-        return acc;
-    }
-    if right == NONE {
-        return acc;
-    }
-    let one = read(table, left);
-    let two = read(table, right);
-    let x = variable_of(table, one.a);
-    let y = variable_of(table, two.a);
     if x.0 == y.0 {
-        let more = add(acc, j, x.0);
-        return agreeing(table, one.b, two.b, j + 1, more);
+        return j as u32;
     }
-    agreeing(table, one.b, two.b, j + 1, acc)
+    NONE
+}
+
+// The positions at which two equally long lists of arguments agree, each led to itself.
+pub fn agreeing(table: &[u32], left: u32, right: u32) -> Map
+    requires { ⌜ Comparing (now table) left right ⌝ }
+    ensures { λ r. ⌜ Agrees (now (table .entry)) left right r ⌝ }
+{
+    let mut m = empty();
+    let mut j = 0;
+    let mut l = left;
+    let mut r = right;
+    while l != NONE {
+        let one = read(table, l);
+        let two = read(table, r);
+        let x = variable_of(table, one.a);
+        let y = variable_of(table, two.a);
+        m.places[j] = agreed(j, x, y);
+        j += 1;
+        l = one.b;
+        r = two.b;
+    }
+    m.len = j;
+    m
+}
+
+// Whether every position has a place.
+pub fn all_placed(map: Map) -> bool
+    requires { ⌜ Whole map ⌝ }
+    ensures { λ b. ⌜ b ≡ eqb (length (mapOf false map)) (map .len) ⌝ }
+{
+    let n = map.len;
+    let mut i = 0;
+    while i < n {
+        if map.places[i] == NONE {
+            return false;
+        }
+        i += 1;
+    }
+    true
 }

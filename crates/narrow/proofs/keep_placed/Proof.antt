@@ -13,11 +13,12 @@ pub keep-placed-spec : {M : Type 1} → statement M
 keep-placed-spec =
     tie.close
     (tie.spec
+    (λ c κs. search needs)
     (λ c κs. search narrowing-writes)
     (λ c. search needs)
-    (λ c. search (keep-all, keep-some))
+    (λ c. search keep-all)
     (λ c κs. search needs)
     (λ c κs. search narrowing-occurs)
     (λ c. search needs)
     (λ c. search needs)
-    (λ c. search (keep-all, keep-some)))
+    (λ c. search keep-some))

@@ -15,6 +15,6 @@ then-occurrence-spec =
     (λ c. search needs)
     (λ c. search needs)
     (λ c κs. search occurring-writes)
-    (λ c. search (then-stops, occurring-goes))
+    (λ c. search then-stops)
     (λ c. search needs)
-    (λ c. search (then-stops, occurring-goes)))
+    (λ c. search occurring-goes))

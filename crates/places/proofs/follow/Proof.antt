@@ -1,12 +1,34 @@
 -- `places::follow` meets its contract.
-use Rattle.places.specs.Follow.{following-none, followed}
 use borrow.Author.Needs.{needs}
+use Rattle.laws.specs.Lists.{size}
+use Rattle.places.specs.Filling.{Filling, filling-first, filling-cell, filling-elem, filling-room, filling-falls, filling-end, fits-index, fits-next}
+use Rattle.places.specs.Maps.{mapOf}
+use Rattle.places.specs.Follow.{followAt, follow-more, follows}
 use Rattle.places.proofs.follow.Statement.{statement}
 use Rattle.places.proofs.follow.Tie as tie
 use Rattle.places.proofs.follow.Reads as reads
 use Rattle.places.proofs.follow.Lts as lts
-use Rattle.places.proofs.empty.Reads as empty-reads
-use Rattle.places.proofs.follow_on.Reads as follow-on-reads
+
+abbrev Inv-loop : tie.InvT-loop
+Inv-loop table map above depth list m₀ j₀ at₀ m j at = Filling (followAt table (mapOf above map) depth) table list (m .places) j at
+
+abbrev μ-loop : tie.MeasureT-loop
+μ-loop table map above depth list m₀ j₀ at₀ m j at = size at
 
 pub follow-spec : {M : Type 1} → statement M
-follow-spec = tie.close (tie.spec (λ c κs. search needs) (λ c κs. search following-none) (λ c. search followed))
+follow-spec =
+    tie.close
+    (tie.spec
+    Inv-loop
+    μ-loop
+    (λ c κs. search needs)
+    (λ c. search filling-first)
+    (λ c κs. search filling-cell)
+    (λ c κs. search filling-elem)
+    (λ c κs. search needs)
+    (λ c. search (fits-index, filling-room))
+    (λ c. search filling-room)
+    (λ c. search (fits-next, filling-room))
+    (λ c. search filling-falls)
+    (λ c. search follow-more)
+    (λ c. search (follows, filling-end)))

@@ -1,12 +1,19 @@
 -- `places::place_of` meets its contract.
-use Rattle.places.specs.Looking.{place-inner, place-out, place-at, place-fits, looks-whole}
 use borrow.Author.Needs.{needs}
+use Rattle.places.specs.Looking.{place-inner, place-out, place-at, place-fits}
 use Rattle.places.proofs.place_of.Statement.{statement}
 use Rattle.places.proofs.place_of.Tie as tie
 use Rattle.places.proofs.place_of.Reads as reads
 use Rattle.places.proofs.place_of.Lts as lts
-use Rattle.places.proofs.look.Reads as look-reads
 
 pub place-of-spec : {M : Type 1} → statement M
 place-of-spec =
-    tie.close (tie.spec (λ c. search place-inner) (λ c κs. search looks-whole) (λ c. search needs) (λ c. search needs) (λ c. search place-out) (λ c. search place-fits) (λ c. search place-at))
+    tie.close
+    (tie.spec
+    (λ c. search place-inner)
+    (λ c κs. search needs)
+    (λ c. search needs)
+    (λ c. search needs)
+    (λ c. search place-out)
+    (λ c. search place-fits)
+    (λ c. search place-at))
