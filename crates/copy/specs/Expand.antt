@@ -18,6 +18,7 @@ use Rattle.invariants.specs.Floor.{Sub, Fine, Grown, limit}
 use Rattle.invariants.specs.Grow.{solved-at}
 use Rattle.invariants.specs.Write.{Written}
 use Rattle.invariants.specs.Copy.{Nobody, copy-grows}
+use Rattle.promise.specs.SideKnown.{SideKnown, side-copies, side-copied}
 use Rattle.rewrite.specs.Levels.{fuel}
 use Rattle.store.specs.Said.{store, shown, Since, since-root, since-failed}
 use Rattle.rewrite.specs.Parts.{term-read}
@@ -28,6 +29,7 @@ pub record Expanding (R n : ℕ) (ws ss : List ℕ) (used r : ℕ) : Type 0 wher
   pub home : ℕ → ℕ
   pub fine : Fine R n home (store ws ss used)
   pub is : Sub ws home 0 used r
+  pub known : SideKnown R (store ws ss used) r
 
 -- with fuel enough, expanding answers so
 pub record Expands (R n : ℕ) (ws ss : List ℕ) (used r : ℕ) (ws₁ : List ℕ) (x : Walked) : Type 0 where
@@ -94,6 +96,7 @@ module _ (R n : ℕ) (ws₀ ss : List ℕ) (used₀ r₀ : ℕ) where
             at = h .ready .is;
             nine = hs .0;
             is = rw (← hs .1) (record { below = so .below; term = so .term; up = omega arith });
+            known = side-copies (h .ready .known) (hs .0) t (hs .1) ne;
           }
 
       module _ (ws₁ : List ℕ) (x : Walked) (c : CopiesSolution R n ws used r t ws₁ x) where
@@ -119,8 +122,9 @@ module _ (R n : ℕ) (ws₀ ss : List ℕ) (used₀ r₀ : ℕ) where
 
           pub turn-next : length ws₁ ≡ length ws → Turn R n ws₀ ss used₀ r₀ ws₁ u₁ y
           turn-next l =
+              let hs = head-solved ws ss r t e ne in
               record {
                 same = l ∙ h .same;
-                ready = record { home = grows .home₁; fine = grows .fine; is = grows .root .sub };
+                ready = record { home = grows .home₁; fine = grows .fine; is = grows .root .sub; known = side-copied (h .ready .known) (hs .0) t (hs .1) ne (suc (suc t)) gives };
                 leads = λ ws₂ z k. h .leads ws₂ z (expand-on R n ws ss used r t e ne ws₁ x c little y u₁ ws₂ z p (risen .0) (risen .1) k);
               }

@@ -1,45 +1,41 @@
--- What copying asks, and that it still holds where the code goes on.
-use Prim.Native.Nat.{ℕ, suc, _+_, _-_, _*_, _<_, _≤_}
-use mathlib.Core.Path.{_≡_}
+-- What copying a term asks, and that it still holds where the code goes on.
+use Prim.Native.Nat.{ℕ, suc, _+_, _*_, _<_, _≤_}
+use mathlib.Core.Path.{_≡_, sym, _∙_}
 use mathlib.Core.List.{List}
 use mathlib.Core.Bool.{false}
 use native.Mathlib.Omega.{arith}
+use native.Mathlib.Decide.{ℕ-discrete}
 use lib.ListN.{length}
 use mir.Syntax.{w32}
 use mir.Val.{Fits}
-use Rattle.rules.specs.declared.Found.{Found}
-use Rattle.rules.specs.declared.Found.the-variants.{At}
-use Rattle.rules.specs.declared.Failure.{Failure}
 use Rattle.store.specs.declared.Walked.{Walked}
-use Rattle.store.specs.declared.Walked.the-variants.{Root, Failed}
 use Rattle.places.specs.declared.Map.{Map}
 use Rattle.table.specs.declared.Record.{Record}
 use Rattle.table.specs.Reading.{IsRecord}
-use Rattle.rules.specs.Words.{NONE, tag, elements}
-use Rattle.rules.specs.Map.{placeOf}
-use Rattle.rules.specs.Store.{pushOccurrence}
-use Rattle.rules.specs.Rewrite.{copy}
-use Rattle.laws.specs.Lists.{size, size-real, elements-kept}
-use Rattle.invariants.specs.Floor.{Sub, Args, Fine, Grown, limit}
-use Rattle.invariants.specs.Grow.{sub-less, args-less, args-kept}
-use Rattle.invariants.specs.Write.{Written}
-use Rattle.invariants.specs.Copy.{Nobody, copy-grows}
-use Rattle.store.specs.Said.{store, shown, Does, Then, over, under}
-use Rattle.places.specs.Maps.{mapOf, Whole, side}
+use Rattle.rules.specs.Words.{NONE, tag, fieldB, elements}
+use Rattle.rules.specs.Store.{push, pushOccurrence}
+use Rattle.laws.specs.Lists.{size}
+use Rattle.invariants.specs.Floor.{Sub, Args, Fine, limit}
+use Rattle.invariants.specs.Grow.{sub-less, args-less}
 use Rattle.invariants.specs.Places.{Low}
+use Rattle.promise.specs.CopyKnown.{CopyKnown, CopyAllKnown, copy-body, copy-constant, copy-variable}
+use Rattle.store.specs.Said.{store, Does, Then, over, under}
+use Rattle.places.specs.Maps.{mapOf, Whole, side}
 use Rattle.places.specs.Looking.{Looks}
 use Rattle.places.specs.Lists.{Counts}
 use Rattle.places.specs.Follow.{Followed}
 use Rattle.narrow.specs.Writing.{Writing}
-use Rattle.rewrite.specs.Parts.{term-read, body-at, args-at, size-args, nine-at, counts-at, cell-read, head-low, rest-low, list-is, both-at}
-use Rattle.copy.specs.Copies.{CopiesT, CopiesL, copy-lambda, copy-constant, copy-variable, copy-hole, args-end, args-stops, args-goes}
+use Rattle.rewrite.specs.Levels.{Headed, of-constant}
+use Rattle.rewrite.specs.Parts.{term-read, body-at, args-at, size-args, counts-at, few-at}
+use Rattle.copy.specs.Copies.{CopiesT, CopiesL, copy-lambda, copy-rigid, copy-leaf, copy-hole}
+use Rattle.rewrite.specs.Renamed.{Renaming}
 
 -- what every copy asks, at a measure k
 pub record On (R n : ℕ) (m : Map) (home : ℕ → ℕ) (ws ss : List ℕ) (used d k : ℕ) : Type 0 where
   pub fine : Fine R n home (store ws ss used)
   pub whole : Whole m
   pub top : ℕ
-  pub low : Low (mapOf m) top
+  pub low : Low (mapOf false m) top
   pub fits : top + d + k ≤ limit used
 
 pub record ReadyT (R n : ℕ) (m : Map) (ws : List ℕ) (used d r : ℕ) : Type 0 where
@@ -47,31 +43,40 @@ pub record ReadyT (R n : ℕ) (m : Map) (ws : List ℕ) (used d r : ℕ) : Type 
   pub ss : List ℕ
   pub is : Sub ws home 0 used r
   pub on : On R n m home ws ss used d (suc r)
+  pub known : CopyKnown (mapOf false m) R (store ws ss used) d r
 
 pub record ReadyL (R n : ℕ) (m : Map) (ws : List ℕ) (used d l : ℕ) : Type 0 where
   pub home : ℕ → ℕ
   pub ss : List ℕ
   pub is : Args ws home 0 used l
+  pub few : length (elements ws l) ≤ 16
   pub on : On R n m home ws ss used d (size l)
+  pub known : CopyAllKnown (mapOf false m) R (store ws ss used) d l
+
+pub on-part : {R n : ℕ} {m : Map} {home : ℕ → ℕ} {ws ss : List ℕ} {used d k : ℕ} (d₁ k₁ : ℕ) → On R n m home ws ss used d k → d₁ + k₁ ≤ d + k → On R n m home ws ss used d₁ k₁
+on-part d₁ k₁ o h = let f = o .fits in record { fine = o .fine; whole = o .whole; top = o .top; low = o .low; fits = omega arith }
 
 module _ {R n : ℕ} {m : Map} {ws : List ℕ} {used d r : ℕ} where
   pub to-read : ReadyT R n m ws used d r → 4 * r + 3 < length ws
   to-read h = term-read R n (h .home) ws (h .ss) used 0 r (h .on .fine) (h .is)
 
-  pub to-look : ReadyT R n m ws used d r → Looks m d
-  to-look h = let f = h .on .fits in let w = h .on .fine .within in let q = h .on .fine .few in record { top = h .on .top; whole = h .on .whole; low = h .on .low; fits = omega arith }
+  looks : ReadyT R n m ws used d r → Looks false m d
+  looks h = let f = h .on .fits in let w = h .on .fine .within in let q = h .on .fine .few in record { top = h .on .top; whole = h .on .whole; low = h .on .low; fits = omega arith }
 
   pub to-depth : ReadyT R n m ws used d r → Fits w32 (d + 1)
   to-depth h = let f = h .on .fits in let w = h .on .fine .within in let q = h .on .fine .few in record { fits = omega arith }
+
+  pub to-push : ReadyT R n m ws used d r → 4 * R ≤ length ws
+  to-push h = h .on .fine .room
+
+  pub to-since : ReadyT R n m ws used d r → n ≤ used
+  to-since h = h .on .fine .since
 
   pub to-then : (ws₁ : List ℕ) → ReadyT R n m ws used d r → length ws₁ ≡ length ws → 4 * R ≤ length ws₁
   to-then ws₁ h e = let c = h .on .fine .room in omega arith
 
   body : (w : Record) → IsRecord ws r w → w .tag ≡ 6 → (h : ReadyT R n m ws used d r) → Sub ws (h .home) 0 r (w .a)
   body w e t h = body-at R n (h .home) ws (h .ss) used 0 r (h .on .fine) (h .is) w e t
-
-  args : (w : Record) → IsRecord ws r w → (w .tag ≡ 6 → ⊥) → (h : ReadyT R n m ws used d r) → size (w .b) ≤ r
-  args w e k h = size-args R n (h .home) ws (h .ss) used 0 r (h .on .fine) (h .is) w e k
 
   pub fall-body : (w : Record) (t : ℕ) → suc r ≡ t → IsRecord ws r w → w .tag ≡ 6 → ReadyT R n m ws used d r → suc (w .a) < t
   fall-body w t z e k h = let b = body w e k h .below in omega arith
@@ -81,118 +86,79 @@ module _ {R n : ℕ} {m : Map} {ws : List ℕ} {used d r : ℕ} where
       let b = body w e k h in
       let b₀ = b .below in
       let i = h .is .below in
-      let f = h .on .fits in
       record {
         home = h .home;
         ss = h .ss;
         is = sub-less ws (h .home) 0 0 r used (w .a) b (omega arith) (omega arith);
-        on = record { fine = h .on .fine; whole = h .on .whole; top = h .on .top; low = h .on .low; fits = omega arith };
+        on = on-part (d + 1) (suc (w .a)) (h .on) (omega arith);
+        known = rw (e .a-is) (copy-body (h .known) (sym (e .tag-is) ∙ k));
       }
 
-  pub fall-args : (w : Record) (t : ℕ) → suc r ≡ t → IsRecord ws r w → (w .tag ≡ 6 → ⊥) → ReadyT R n m ws used d r → size (w .b) < t
-  fall-args w t z e k h = let s = args w e k h in omega arith
-
-  pub to-args : (w : Record) → IsRecord ws r w → (w .tag ≡ 6 → ⊥) → ReadyT R n m ws used d r → ReadyL R n m ws used d (w .b)
-  to-args w e k h =
-      let s = args w e k h in
-      let f = h .on .fits in
-      let i = h .is .below in
-      record {
-        home = h .home;
-        ss = h .ss;
-        is = args-less ws (h .home) 0 0 r used (w .b) (args-at R n (h .home) ws (h .ss) used 0 r (h .on .fine) (h .is) w e k) (omega arith) (omega arith);
-        on = record { fine = h .on .fine; whole = h .on .whole; top = h .on .top; low = h .on .low; fits = omega arith };
-      }
-
-  module _ (w : Record) (e : IsRecord ws r w) (a : w .tag ≡ 6 → ⊥) (b : w .tag ≡ 7 → ⊥) (c : w .tag ≡ 8 → ⊥) (h : ReadyT R n m ws used d r) where
-    nine : tag ws r ≡ 9
-    nine = nine-at R n (h .home) ws (h .ss) used 0 r (h .on .fine) (h .is) w e a b c
-
-    pub to-counts : Counts ws (w .b)
-    to-counts = counts-at R n (h .home) ws (h .ss) used 0 r (h .on .fine) (h .is) w e nine
-
-    pub to-write : (next : Map) → Followed ws m d (w .b) next → Writing ws n used R next 0
-    to-write next f = record { room = h .on .fine .room; since = h .on .fine .since; whole = f .whole; at = omega arith }
-
-    pub copied-hole : (next : Map) (ws₁ : List ℕ) (x : Walked) → Followed ws m d (w .b) next → Does n (pushOccurrence R (w .a) (side false (mapOf next))) ws used ws₁ x → CopiesT R n m ws used d r ws₁ x
-    copied-hole next ws₁ x f p = copy-hole R n m ws used d r w e next ws₁ x nine f p
-
-  -- what the code returns
   pub copied-lambda : (w : Record) (ws₁ : List ℕ) (x : Walked) (ws₂ : List ℕ) (y : Walked) → IsRecord ws r w → w .tag ≡ 6 → ReadyT R n m ws used d r
       → CopiesT R n m ws used (d + 1) (w .a) ws₁ x → Then n (under R 6 0) ws₁ x ws₂ y → CopiesT R n m ws used d r ws₂ y
   copied-lambda w ws₁ x ws₂ y e t h p q = copy-lambda R n m ws used d r w e ws₁ x ws₂ y t (body w e t h .below) p q
 
-  pub copied-constant : (w : Record) (ws₁ : List ℕ) (x : Walked) (ws₂ : List ℕ) (y : Walked) → IsRecord ws r w → (w .tag ≡ 6 → ⊥) → w .tag ≡ 7 → ReadyT R n m ws used d r
-      → CopiesL R n m ws used d (w .b) ws₁ x → Then n (over R 7 (w .a)) ws₁ x ws₂ y → CopiesT R n m ws used d r ws₂ y
-  copied-constant w ws₁ x ws₂ y e k t h p q = copy-constant R n m ws used d r w e ws₁ x ws₂ y t (args w e k h) p q
+  -- an occurrence
+  module _ (w : Record) (e : IsRecord ws r w) (nine : w .tag ≡ 9) (h : ReadyT R n m ws used d r) where
+    is-nine : tag ws r ≡ 9
+    is-nine = sym (e .tag-is) ∙ nine
 
-  pub copied-variable : (w : Record) (s : Found) (v : ℕ) (ws₁ : List ℕ) (x : Walked) (ws₂ : List ℕ) (y : Walked) → IsRecord ws r w → (w .tag ≡ 6 → ⊥) → w .tag ≡ 8 → ReadyT R n m ws used d r
-      → placeOf (mapOf m) d (w .a) ≡ s → s ≡ At v → CopiesL R n m ws used d (w .b) ws₁ x → Then n (over R 8 v) ws₁ x ws₂ y → CopiesT R n m ws used d r ws₂ y
-  copied-variable w s v ws₁ x ws₂ y e k t h i j p q = copy-variable R n m ws used d r w e s v ws₁ x ws₂ y t i j (args w e k h) p q
+    pub to-counts : Counts ws (w .b)
+    to-counts = counts-at R n (h .home) ws (h .ss) used 0 r (h .on .fine) (h .is) w e is-nine
 
--- lists
-module _ {R n : ℕ} {m : Map} {ws : List ℕ} {used d l : ℕ} where
-  pub to-read-cell : (l ≡ NONE → ⊥) → ReadyL R n m ws used d l → 4 * l + 3 < length ws
-  to-read-cell ne h = cell-read R n (h .home) ws (h .ss) used 0 l (h .on .fine) (h .is) ne
+    pub to-look : Looks false m d
+    to-look = looks h
 
-  pub to-then-cell : (ws₁ ws₂ : List ℕ) → ReadyL R n m ws used d l → length ws₁ ≡ length ws → length ws₂ ≡ length ws₁ → 4 * R ≤ length ws₂
-  to-then-cell ws₁ ws₂ h e f = let c = h .on .fine .room in omega arith
+    pub to-write : (next : Map) → Followed ws false m d (w .b) next → Writing ws n used R next
+    to-write next f = record { room = h .on .fine .room; since = h .on .fine .since; whole = f .whole }
 
-  pub list-end : ReadyL R n m ws used d l → l ≡ NONE → CopiesL R n m ws used d l ws (Root NONE used)
-  list-end h e = args-end R n m ws used d l (h .on .fine .since) e
+    pub copied-hole : (next : Map) (ws₁ : List ℕ) (x : Walked) → Followed ws false m d (w .b) next → Does n (pushOccurrence R (w .a) (side false (mapOf false next))) ws used ws₁ x
+        → CopiesT R n m ws used d r ws₁ x
+    copied-hole next ws₁ x f p = copy-hole R n m ws used d r w e next ws₁ x is-nine f p
 
-  module _ (w : Record) (ne : l ≡ NONE → ⊥) (e : IsRecord ws l w) (h : ReadyL R n m ws used d l) where
-    parts : Sub ws (h .home) 0 used (w .a) × Args ws (h .home) 0 used (w .b)
-    parts = both-at R n (h .home) ws (h .ss) used 0 l (h .on .fine) (h .is) ne w e
+  -- a rigid head
+  pub to-name : (w : Record) → IsRecord ws r w → w .tag ≡ 8 → ReadyT R n m ws used d r → Renaming m d (w .a)
+  to-name w e t h =
+      let p = copy-variable (h .known) (sym (e .tag-is) ∙ t) .0 in
+      record { looks = looks h; to = p .0; has = rw (e .a-is) (p .1) }
 
-    lower : (suc (w .a) < size l) × (size (w .b) < size l)
-    lower =
-        let a = head-low R n (h .home) ws (h .ss) used 0 l (h .on .fine) (h .is) ne w e in
-        let b = rest-low R n (h .home) ws (h .ss) used 0 l (h .on .fine) (h .is) ne w e in
-        let s = size-real l ne in
-        (omega arith, omega arith)
+  pub copied-leaf : (w : Record) (v : ℕ) (ws₁ : List ℕ) (x : Walked) → IsRecord ws r w → Headed (mapOf false m) d w v → w .b ≡ NONE → Does n (push R (w .tag) v NONE) ws used ws₁ x → CopiesT R n m ws used d r ws₁ x
+  copied-leaf w v ws₁ x e t z p = copy-leaf R n m ws used d r w e v ws₁ x t z p
 
-    pub fall-head : (t : ℕ) → size l ≡ t → suc (w .a) < t
-    fall-head t z = let a = lower .0 in omega arith
+  module _ (w : Record) (e : IsRecord ws r w) (a : w .tag ≡ 6 → ⊥) (b : w .tag ≡ 9 → ⊥) (h : ReadyT R n m ws used d r) where
+    pub head-kept : (x : ℕ) → (w .tag ≡ 8 → ⊥) → x ≡ w .a → Headed (mapOf false m) d w x
+    head-kept x c q = let lo = h .is .term .low in let hi = h .is .term .high in let z = e .tag-is in of-constant (omega arith) (sym q)
 
-    pub fall-rest : (t : ℕ) → size l ≡ t → size (w .b) < t
-    fall-rest t z = let a = lower .1 in omega arith
+    args : size (w .b) ≤ r
+    args = size-args R n (h .home) ws (h .ss) used 0 r (h .on .fine) (h .is) w e a
 
-    pub to-head : ReadyT R n m ws used d (w .a)
-    to-head =
-        let f = h .on .fits in
-        let a = lower .0 in
-        record { home = h .home; ss = h .ss; is = parts .0; on = record { fine = h .on .fine; whole = h .on .whole; top = h .on .top; low = h .on .low; fits = omega arith } }
+    pub fall-args : (t : ℕ) → suc r ≡ t → size (w .b) < t
+    fall-args t z = let s = args in omega arith
 
-    module _ (ws₁ : List ℕ) (x : Walked) (p : CopiesT R n m ws used d (w .a) ws₁ x) where
-      pub list-stops : (e₁ : Failure) → x ≡ Failed e₁ → CopiesL R n m ws used d l ws₁ (Failed e₁)
-      list-stops e₁ q = args-stops R n m ws used d l (w .a) (elements ws (w .b)) ws₁ x e₁ (list-is R n (h .home) ws (h .ss) used 0 l (h .on .fine) (h .is) ne w e) (lower .0) p q
+    knows : CopyAllKnown (mapOf false m) R (store ws (h .ss) used) d (w .b)
+    knows = rw (e .b-is) (go (ℕ-discrete (tag ws r) 7))
+      where
+        go : Dec (tag ws r ≡ 7) → CopyAllKnown (mapOf false m) R (store ws (h .ss) used) d (fieldB ws r)
+        go (yes t) = copy-constant (h .known) t
+        go (no t) =
+            let lo = h .is .term .low in
+            let hi = h .is .term .high in
+            let z = e .tag-is in
+            copy-variable (h .known) (omega arith) .1
 
-      module _ (y u₁ : ℕ) (q : x ≡ Root y u₁) where
-        grown : Grown Nobody (Written 0 used) R n (h .home) (store ws (h .ss) used) (store ws₁ (h .ss) u₁) y
-        grown =
-            let f = suc (suc (w .a)) in
-            let r : copy f R (mapOf m) d (w .a) (store ws (h .ss) used) ≡ shown ws₁ (h .ss) x = p .run f (omega arith) (h .ss) in
-            let fi = h .on .fits in
-            let lo = lower .0 in
-            rw (r, q) at (copy-grows R n (h .on .top) f (mapOf m) d (w .a) (store ws (h .ss) used) (h .home) (h .on .fine) (parts .0) (h .on .low) (omega arith) (omega arith))
+    pub to-args : ReadyL R n m ws used d (w .b)
+    to-args =
+        let s = args in
+        let i = h .is .below in
+        record {
+          home = h .home;
+          ss = h .ss;
+          is = args-less ws (h .home) 0 0 r used (w .b) (args-at R n (h .home) ws (h .ss) used 0 r (h .on .fine) (h .is) w e a) (omega arith) (omega arith);
+          few = few-at R n (h .home) ws (h .ss) used 0 r (h .on .fine) (h .is) w e a;
+          on = on-part d (size (w .b)) (h .on) (omega arith);
+          known = knows;
+        }
 
-        pub to-rest : ReadyL R n m ws₁ u₁ d (w .b)
-        to-rest =
-            let g = grown in
-            let gr = g .ext .grown in
-            let f = h .on .fits in
-            let a = lower .1 in
-            record {
-              home = g .home₁;
-              ss = h .ss;
-              is = args-kept _ _ _ _ _ _ _ _ _ (h .on .fine) (g .ext) (parts .1);
-              on = record { fine = g .fine; whole = h .on .whole; top = h .on .top; low = h .on .low; fits = omega arith };
-            }
-
-        pub list-goes : (ws₂ : List ℕ) (z : Walked) (ws₃ : List ℕ) (out : Walked) → CopiesL R n m ws₁ u₁ d (w .b) ws₂ z → Then n (over R 5 y) ws₂ z ws₃ out → CopiesL R n m ws used d l ws₃ out
-        list-goes ws₂ z ws₃ out k t =
-            let b = lower .1 in
-            let el : elements ws₁ (w .b) ≡ elements ws (w .b) = elements-kept ws ws₁ used (w .b) (grown .ext .kept) (λ c lt five. h .on .fine .good c lt .cell five) (parts .1 .here) in
-            args-goes R n m ws used d l (w .a) (w .b) ws₁ x y u₁ ws₂ z ws₃ out
-            (rw el (list-is R n (h .home) ws (h .ss) used 0 l (h .on .fine) (h .is) ne w e)) (lower .0) (omega arith) p q k t
+    pub copied-rigid : (v : ℕ) (ws₁ : List ℕ) (x : Walked) (ws₂ : List ℕ) (y : Walked) → Headed (mapOf false m) d w v
+        → CopiesL R n m ws used d (w .b) ws₁ x → Then n (over R (w .tag) v) ws₁ x ws₂ y → CopiesT R n m ws used d r ws₂ y
+    copied-rigid v ws₁ x ws₂ y t p q = copy-rigid R n m ws used d r w e v ws₁ x ws₂ y t args p q

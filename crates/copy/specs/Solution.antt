@@ -1,5 +1,5 @@
 -- A copy of a solution, its context variables renamed to the arguments of the occurrence.
-use Prim.Native.Nat.{ℕ, suc, _+_, _-_, _*_, _<_, _≤_}
+use Prim.Native.Nat.{ℕ, suc, _+_, _*_, _<_, _≤_}
 use mathlib.Core.Path.{_≡_, sym, _∙_}
 use mathlib.Core.List.{List}
 use mathlib.Core.Bool.{true, false}
@@ -18,9 +18,11 @@ use Rattle.invariants.specs.Floor.{Sub, Fine, limit}
 use Rattle.invariants.specs.Places.{Low, variables-low}
 use Rattle.invariants.specs.Copy.{occurrence-low}
 use Rattle.store.specs.Said.{store, shown, Since}
-use Rattle.places.specs.Maps.{mapOf, noPlace}
-use Rattle.places.specs.Numbered.{Numbering, Numbered, variables as toTheVariables, numbering-none, variables-none}
-use Rattle.rewrite.specs.Parts.{counts-at}
+use Rattle.promise.specs.CopyKnown.{CopyKnown}
+use Rattle.places.specs.Maps.{mapOf}
+use Rattle.places.specs.Lists.{Counts}
+use Rattle.places.specs.Arguments.{Arguments, arguments-inside}
+use Rattle.rewrite.specs.Parts.{term-read, counts-at, names-at}
 use Rattle.copy.specs.Copies.{CopiesT}
 use Rattle.copy.specs.Ready.{ReadyT}
 
@@ -61,31 +63,42 @@ pub record Copying (R n : ℕ) (ws : List ℕ) (used r t : ℕ) : Type 0 where
   pub at : Sub ws home 0 used r
   pub nine : tag ws r ≡ 9
   pub is : Sub ws home 0 used t
+  pub known : CopyKnown (toVariables 0 (variables ws r)) R (store ws ss used) 0 t
 
 -- with fuel enough, the copy answers so
 pub record CopiesSolution (R n : ℕ) (ws : List ℕ) (used r t : ℕ) (ws₁ : List ℕ) (x : Walked) : Type 0 where
   pub run : (f : ℕ) → suc t < f → (ss : List ℕ) → copy f R (toVariables 0 (variables ws r)) 0 t (store ws ss used) ≡ shown ws₁ ss x
   pub grown : Since n x
 
-module _ {R n : ℕ} {ws : List ℕ} {used r t : ℕ} where
-  pub copying-numbers : (w : Record) (acc : Map) → IsRecord ws r w → Copying R n ws used r t → noPlace ≡ acc → Numbering ws (w .b) 0 acc
-  copying-numbers w acc e h q = numbering-none ws (w .b) acc (counts-at R n (h .home) ws (h .ss) used 0 r (h .fine) (h .at) w e (h .nine)) q
-
-  named : (w : Record) (acc m : Map) → IsRecord ws r w → noPlace ≡ acc → Numbered toTheVariables ws (w .b) 0 acc m → Copying R n ws used r t → mapOf m ≡ toVariables 0 (variables ws r)
-  unfolding variables arguments
-  named w acc m e q p h = rw (← e .b-is) (variables-none ws (w .b) acc m q p)
+module _ {R n : ℕ} {ws : List ℕ} {used r t : ℕ} (h : Copying R n ws used r t) where
+  pub copying-read : 4 * r + 3 < length ws
+  copying-read = term-read R n (h .home) ws (h .ss) used 0 r (h .fine) (h .at)
 
   -- the arguments name low variables
-  pub names-low : (h : Copying R n ws used r t) → Low (toVariables 0 (variables ws r)) (limit r)
-  names-low h = variables-low 0 (limit r) (variables ws r) (occurrence-low R n (h .home) (store ws (h .ss) used) r (h .fine) (h .at .below) (h .nine))
+  pub names-low : Low (toVariables 0 (variables ws r)) (limit r)
+  names-low = variables-low 0 (limit r) (variables ws r) (occurrence-low R n (h .home) (store ws (h .ss) used) r (h .fine) (h .at .below) (h .nine))
 
-  pub names-fit : Copying R n ws used r t → limit r + 0 + suc t ≤ limit used
-  names-fit h = let a = h .at .below in let b = h .is .below in let w = h .fine .within in let f = h .fine .few in omega arith
+  pub names-fit : limit r + 0 + suc t ≤ limit used
+  names-fit = let a = h .at .below in let b = h .is .below in let w = h .fine .within in let f = h .fine .few in omega arith
 
-  pub copying-ready : (w : Record) (acc m : Map) → IsRecord ws r w → noPlace ≡ acc → Numbered toTheVariables ws (w .b) 0 acc m → Copying R n ws used r t → ReadyT R n m ws used 0 t
-  copying-ready w acc m e q p h =
-      record { home = h .home; ss = h .ss; is = h .is; on = record { fine = h .fine; whole = p .whole; top = limit r; low = rw (named w acc m e q p h) (names-low h); fits = names-fit h } }
+  module _ (w : Record) (e : IsRecord ws r w) where
+    pub copying-counts : Counts ws (w .b)
+    copying-counts = counts-at R n (h .home) ws (h .ss) used 0 r (h .fine) (h .at) w e (h .nine)
 
-  pub solution-copied : (w : Record) (acc m : Map) (ws₁ : List ℕ) (x : Walked) → IsRecord ws r w → noPlace ≡ acc → Numbered toTheVariables ws (w .b) 0 acc m → Copying R n ws used r t
-      → CopiesT R n m ws used 0 t ws₁ x → CopiesSolution R n ws used r t ws₁ x
-  solution-copied w acc m ws₁ x e q p h c = record { run = λ f hf ss. rw (← named w acc m e q p h) (c .run f hf ss); grown = c .grown }
+    module _ (m : Map) (p : Arguments ws (w .b) m) where
+      named : mapOf false m ≡ toVariables 0 (variables ws r)
+      unfolding variables arguments
+      named = rw (← e .b-is) (arguments-inside ws (w .b) m p (names-at R n (h .home) ws (h .ss) used 0 r (h .fine) (h .at) w e (h .nine)))
+
+      pub copying-ready : ReadyT R n m ws used 0 t
+      copying-ready =
+          record {
+            home = h .home;
+            ss = h .ss;
+            is = h .is;
+            on = record { fine = h .fine; whole = p .whole; top = limit r; low = rw named names-low; fits = names-fit };
+            known = rw named (h .known);
+          }
+
+      pub solution-copied : (ws₁ : List ℕ) (x : Walked) → CopiesT R n m ws used 0 t ws₁ x → CopiesSolution R n ws used r t ws₁ x
+      solution-copied ws₁ x c = record { run = λ f hf ss. rw (← named) (c .run f hf ss); grown = c .grown }

@@ -1,18 +1,15 @@
 // Step 1 of the machine: a side whose head is a solved hole is replaced by a copy of the solution.
+use narrow::push_cells;
 use narrow::push_occurrence;
 use places::Map;
-use places::empty;
+use places::arguments;
 use places::follow;
-use places::place_of;
-use places::to_variables;
-use rules::Failure;
-use rules::Found;
+use rewrite::renamed;
 use store::Walked;
+use store::push;
 use store::solution_of;
 use store::then_over;
 use store::then_under;
-use table::CA;
-use table::CE;
 use table::HA;
 use table::Hole;
 use table::LA;
@@ -45,19 +42,19 @@ fn copy_term(
         let body = copy_term(table, n, used, room, map, depth + 1, rec.a);
         return then_under(table, n, room, LA, 0, body);
     }
-    if rec.tag == CA {
-        let args = copy_args(table, n, used, room, map, depth, rec.b);
-        return then_over(table, n, room, CA, rec.a, args);
+    if rec.tag == HA {
+        let kept = follow(table, map, false, depth, rec.b);
+        return push_occurrence(table, n, used, room, Hole(rec.a), kept, false);
     }
+    let mut head = rec.a;
     if rec.tag == VA {
-        let Found::At(v) = place_of(map, depth, Variable(rec.a)) else {
-            return Walked::Failed(Failure::Escape);
-        };
-        let args = copy_args(table, n, used, room, map, depth, rec.b);
-        return then_over(table, n, room, VA, v, args);
+        head = renamed(map, depth, Variable(rec.a));
     }
-    let kept = follow(table, map, depth, rec.b);
-    push_occurrence(table, n, used, room, Hole(rec.a), kept, false)
+    if rec.b == NONE {
+        return push(table, n, used, room, rec.tag, head, NONE);
+    }
+    let args = copy_args(table, n, used, room, map, depth, rec.b);
+    then_over(table, n, room, rec.tag, head, args)
 }
 
 // A copy of an argument list: arguments in order, then their cells from last to first.
@@ -73,20 +70,25 @@ fn copy_args(
     requires { ⌜ ReadyL room n map (now table) used depth list ⌝ }
     ensures { λ r. ⌜ CopiesL room n map (now (table .entry)) used depth list (now (table .exit)) r ⌝ }
 {
-    if list == NONE {
-        return Walked::Root { root: NONE, used };
-    }
-    let cell = read(table, list);
-    match copy_term(table, n, used, room, map, depth, cell.a) {
-        Walked::Failed(e) => Walked::Failed(e),
-        Walked::Root {
-            root: head,
-            used: then,
-        } => {
-            let rest = copy_args(table, n, then, room, map, depth, cell.b);
-            then_over(table, n, room, CE, head, rest)
+    let mut noted = [0u32; 16];
+    let mut k = 0;
+    let mut taken = used;
+    let mut left = list;
+    while left != NONE {
+        let cell = read(table, left);
+        match copy_term(table, n, taken, room, map, depth, cell.a) {
+            Walked::Failed(e) => {
+                return Walked::Failed(e);
+            }
+            Walked::Root { root, used: then } => {
+                noted[k] = root;
+                k += 1;
+                taken = then;
+            }
         }
+        left = cell.b;
     }
+    push_cells(table, n, taken, room, &noted, k)
 }
 
 // The record of the solution of a side's head, or NONE if the head is no solved hole.
@@ -107,7 +109,7 @@ fn copy_solution(table: &mut [u32], n: u32, used: u32, room: u32, at: u32, solut
     ensures { λ r. ⌜ CopiesSolution room n (now (table .entry)) used at solution (now (table .exit)) r ⌝ }
 {
     let occ = read(table, at);
-    let map = to_variables(table, occ.b, 0, empty());
+    let map = arguments(table, occ.b);
     copy_term(table, n, used, room, map, 0, solution)
 }
 

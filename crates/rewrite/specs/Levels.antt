@@ -1,72 +1,60 @@
--- One level of a term written anew, as the code answers it: what follows from what the children come to.
+-- One level of a term written anew, by the record read, whatever words it is written to.
 use Prim.Native.Nat.{ℕ, zero, suc, _+_, _<_, _≤_}
-use mathlib.Core.Path.{_≡_, refl, sym, _∙_}
+use mathlib.Core.Path.{_≡_, refl, sym, ap, _∙_}
+use mathlib.Core.List.{List}
 use native.Mathlib.Omega.{arith}
-use mathlib.Core.List.{List, _∷_}
 use Rattle.rules.specs.declared.Found.{Found}
 use Rattle.rules.specs.declared.Found.the-variants.{At, Nowhere}
-use Rattle.rules.specs.declared.Failure.{Failure}
 use Rattle.rules.specs.declared.Failure.the-variants.{Escape}
-use Rattle.store.specs.declared.Walked.{Walked}
-use Rattle.store.specs.declared.Walked.the-variants.{Root, Failed}
 use Rattle.table.specs.declared.Record.{Record}
 use Rattle.table.specs.Reading.{IsRecord}
-use Rattle.rules.specs.Words.{tag, fieldA, fieldB, elements, arguments}
-use Rattle.rules.specs.Store.{fail, _>>=_}
-use Rattle.rules.specs.Map.{Map as Pairs, placeOf}
+use Rattle.rules.specs.Words.{NONE, tag, fieldA, elements, arguments}
+use Rattle.rules.specs.Store.{Store, fail, push, _>>=_}
+use Rattle.rules.specs.Map.{Map, placeOf}
 use Rattle.rules.specs.Rewrite.{Writer, writeAll, writeTerm}
+use Rattle.laws.specs.Lists.{elements-none}
 use Rattle.invariants.specs.Forms.{form-6, form-7, form-8, form-9}
-use Rattle.store.specs.Said.{store, shown, Then, over, under}
+use Rattle.store.specs.Said.{over, under}
 
 -- fuel above a measure: one less is left below
 pub fuel : (n s : ℕ) → s < n → (k : ℕ) × (n ≡ suc k) × (s ≤ k)
 fuel zero s h = absurd (omega arith)
 fuel (suc k) s h = (k, refl, omega arith)
 
-module _ (onHole write : Writer) (R n : ℕ) (m : Pairs) (ws ss : List ℕ) (used d r : ℕ) (w : Record) (is : IsRecord ws r w) where
-  abbrev Level : List ℕ → List ℕ → Walked → Type 0
-  Level ws₁ ss₁ x = writeTerm onHole write R ws m d r (store ws ss used) ≡ shown ws₁ ss₁ x
+-- the number of a rigid head: a constant's own, a variable's place
+pub data Headed (m : Map) (d : ℕ) (w : Record) (v : ℕ) : Type 0 where
+  of-constant : w .tag ≡ 7 → w .a ≡ v → Headed m d w v
+  of-variable : w .tag ≡ 8 → placeOf m d (w .a) ≡ At v → Headed m d w v
 
-  pub level-lambda : (ws₁ ss₁ : List ℕ) (x : Walked) (ws₂ : List ℕ) (y : Walked) → w .tag ≡ 6 → write m (d + 1) (w .a) (store ws ss used) ≡ shown ws₁ ss₁ x
-      → Then n (under R 6 0) ws₁ x ws₂ y → Level ws₂ ss₁ y
+pub head-placed : (m : Map) (d : ℕ) (w : Record) (s : Found) (v x : ℕ) → w .tag ≡ 8 → placeOf m d (w .a) ≡ s → s ≡ At v → x ≡ v → Headed m d w x
+head-placed m d w s v x t p q e = of-variable t (p ∙ q ∙ ap At (sym e))
+
+pub head-named : (m : Map) (d : ℕ) (w : Record) (v x : ℕ) → w .tag ≡ 8 → placeOf m d (w .a) ≡ At v → x ≡ v → Headed m d w x
+head-named m d w v x t p q = of-variable t (p ∙ ap At (sym q))
+
+module _ (onHole write : Writer) (R : ℕ) (ws : List ℕ) (m : Map) (d r : ℕ) (s : Store) (w : Record) (is : IsRecord ws r w) where
+  pub level-lambda : w .tag ≡ 6 → writeTerm onHole write R ws m d r s ≡ (write m (d + 1) (w .a) s >>= under R 6 0)
   unfolding writeTerm
-  level-lambda ws₁ ss₁ x ws₂ y t h p =
-      let h₁ : write m (d + 1) (fieldA ws r) (store ws ss used) ≡ shown ws₁ ss₁ x = rw (← is .a-is) h in
-      rw (form-6 ws r (sym (is .tag-is) ∙ t), writeTerm, h₁) (p .run ss₁)
+  level-lambda t = rw (form-6 ws r (sym (is .tag-is) ∙ t), writeTerm, is .a-is)
 
-  pub level-constant : (ws₁ ss₁ : List ℕ) (x : Walked) (ws₂ : List ℕ) (y : Walked) → w .tag ≡ 7 → writeAll write R m d (elements ws (w .b)) (store ws ss used) ≡ shown ws₁ ss₁ x
-      → Then n (over R 7 (w .a)) ws₁ x ws₂ y → Level ws₂ ss₁ y
+  pub level-rigid : (v : ℕ) → Headed m d w v → writeTerm onHole write R ws m d r s ≡ (writeAll write R m d (elements ws (w .b)) s >>= over R (w .tag) v)
   unfolding writeTerm arguments
-  level-constant ws₁ ss₁ x ws₂ y t h p =
-      let h₁ : writeAll write R m d (elements ws (fieldB ws r)) (store ws ss used) ≡ shown ws₁ ss₁ x = rw (← is .b-is) h in
-      rw (form-7 ws r (sym (is .tag-is) ∙ t), writeTerm, h₁) (rw (← is .a-is) (p .run ss₁))
+  level-rigid v (of-constant t e) = rw (form-7 ws r (sym (is .tag-is) ∙ t), writeTerm, ← e, is .a-is, is .b-is, t)
+  level-rigid v (of-variable t e) =
+      let p : placeOf m d (fieldA ws r) ≡ At v = rw (← is .a-is) e in
+      rw (form-8 ws r (sym (is .tag-is) ∙ t), writeTerm, p, is .b-is, t)
 
-  pub level-escape : (s : Found) → w .tag ≡ 8 → placeOf m d (w .a) ≡ s → s ≡ Nowhere → Level ws ss (Failed Escape)
-  unfolding writeTerm fail
-  level-escape s t p q =
-      let p₁ : placeOf m d (fieldA ws r) ≡ Nowhere = rw (← is .a-is) (p ∙ q) in
+  -- without arguments
+  pub level-leaf : (v : ℕ) → Headed m d w v → w .b ≡ NONE → writeTerm onHole write R ws m d r s ≡ push R (w .tag) v NONE s
+  unfolding writeAll _>>=_
+  level-leaf v h e = level-rigid v h ∙ rw (elements-none ws (w .b) e)
+
+  pub level-escape : w .tag ≡ 8 → placeOf m d (w .a) ≡ Nowhere → writeTerm onHole write R ws m d r s ≡ fail Escape s
+  unfolding writeTerm
+  level-escape t p =
+      let p₁ : placeOf m d (fieldA ws r) ≡ Nowhere = rw (← is .a-is) p in
       rw (form-8 ws r (sym (is .tag-is) ∙ t), writeTerm, p₁)
 
-  pub level-variable : (s : Found) (v : ℕ) (ws₁ ss₁ : List ℕ) (x : Walked) (ws₂ : List ℕ) (y : Walked) → w .tag ≡ 8 → placeOf m d (w .a) ≡ s → s ≡ At v
-      → writeAll write R m d (elements ws (w .b)) (store ws ss used) ≡ shown ws₁ ss₁ x → Then n (over R 8 v) ws₁ x ws₂ y → Level ws₂ ss₁ y
-  unfolding writeTerm arguments
-  level-variable s v ws₁ ss₁ x ws₂ y t i q h p =
-      let p₁ : placeOf m d (fieldA ws r) ≡ At v = rw (← is .a-is) (i ∙ q) in
-      let h₁ : writeAll write R m d (elements ws (fieldB ws r)) (store ws ss used) ≡ shown ws₁ ss₁ x = rw (← is .b-is) h in
-      rw (form-8 ws r (sym (is .tag-is) ∙ t), writeTerm, p₁, h₁) (p .run ss₁)
-
-pub level-hole : (onHole write : Writer) (R : ℕ) (m : Pairs) (ws ss : List ℕ) (used d r : ℕ) (ws₁ ss₁ : List ℕ) (x : Walked) → tag ws r ≡ 9 → onHole m d r (store ws ss used) ≡ shown ws₁ ss₁ x
-    → writeTerm onHole write R ws m d r (store ws ss used) ≡ shown ws₁ ss₁ x
+pub level-hole : (onHole write : Writer) (R : ℕ) (ws : List ℕ) (m : Map) (d r : ℕ) (s : Store) → tag ws r ≡ 9 → writeTerm onHole write R ws m d r s ≡ onHole m d r s
 unfolding writeTerm
-level-hole onHole write R m ws ss used d r ws₁ ss₁ x t h = rw (form-9 ws r t, writeTerm) h
-
--- the arguments, in order
-module _ (write : Writer) (R n : ℕ) (m : Pairs) (ws ss : List ℕ) (used d a : ℕ) (ws₁ ss₁ : List ℕ) (x : Walked) (first : write m d a (store ws ss used) ≡ shown ws₁ ss₁ x) where
-  pub all-stops : (xs : List ℕ) (e : Failure) → x ≡ Failed e → writeAll write R m d (a ∷ xs) (store ws ss used) ≡ shown ws₁ ss₁ (Failed e)
-  unfolding writeAll _>>=_
-  all-stops xs e p = rw (writeAll, first, p)
-
-  pub all-goes : (xs : List ℕ) (y u₁ : ℕ) (ws₂ ss₂ : List ℕ) (z : Walked) (ws₃ : List ℕ) (out : Walked) → x ≡ Root y u₁ → writeAll write R m d xs (store ws₁ ss₁ u₁) ≡ shown ws₂ ss₂ z
-      → Then n (over R 5 y) ws₂ z ws₃ out → writeAll write R m d (a ∷ xs) (store ws ss used) ≡ shown ws₃ ss₂ out
-  unfolding writeAll _>>=_
-  all-goes xs y u₁ ws₂ ss₂ z ws₃ out p g t = rw (writeAll, first, p, g) (t .run ss₂)
+level-hole onHole write R ws m d r s t = rw (form-9 ws r t, writeTerm)

@@ -1,2 +1,3 @@
-pub mod Levels  -- one level of a term written anew, as the code answers it
+pub mod Renamed  -- a variable that has a place, renamed
+pub mod Levels  -- one level of a term written anew, by the record read
 pub mod Parts  -- a term of a fine store, by the record read

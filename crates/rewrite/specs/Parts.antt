@@ -1,18 +1,19 @@
 -- A term, or a list of terms, of a fine store: what its record, as read, says of its parts.
-use Prim.Native.Nat.{ℕ, _+_, _-_, _*_, _<_, _≤_}
+use Prim.Native.Nat.{ℕ, suc, _+_, _*_, _<_, _≤_}
 use mathlib.Core.Path.{_≡_, sym, _∙_}
 use mathlib.Core.List.{List, _∷_}
 use native.Mathlib.Omega.{arith}
 use lib.ListN.{length}
 use Rattle.table.specs.declared.Record.{Record}
 use Rattle.table.specs.Reading.{IsRecord}
-use Rattle.rules.specs.Words.{NONE, tag, fieldA, fieldB, elements}
-use Rattle.laws.specs.Lists.{Cell, Listed, size, size-below, elements-cell}
-use Rattle.invariants.specs.Floor.{Sub, All, Args, Fine}
-use Rattle.invariants.specs.Grow.{listed-of, args-less}
+use Rattle.rules.specs.Words.{NONE, tag, fieldA, fieldB, elements, arguments, variables}
+use Rattle.laws.specs.Lists.{Cell, Listed, size, size-real, size-below, elements-cell}
+use Rattle.invariants.specs.Floor.{Sub, All, Args, Fine, limit}
+use Rattle.invariants.specs.Grow.{all-map, listed-of, args-less}
+use Rattle.invariants.specs.Copy.{occurrence-low}
 use Rattle.places.specs.declared.Map.{Map}
 use Rattle.places.specs.Maps.{Whole}
-use Rattle.places.specs.Lists.{Counts}
+use Rattle.places.specs.Lists.{Counts, varsOf}
 use Rattle.narrow.specs.Narrowing.{Narrowing}
 use Rattle.store.specs.Said.{store}
 
@@ -51,8 +52,8 @@ module _ (R n : ℕ) (home : ℕ → ℕ) (ws ss : List ℕ) (used b r : ℕ) (f
     pub size-args : (w .tag ≡ 6 → ⊥) → size (w .b) ≤ r
     size-args k = let a = args-at k in size-below (w .b) r (λ q. a .here q .0)
 
-    pub nine-at : (w .tag ≡ 6 → ⊥) → (w .tag ≡ 7 → ⊥) → (w .tag ≡ 8 → ⊥) → tag ws r ≡ 9
-    nine-at a c d = let lo = is .term .low in let hi = is .term .high in let t = e .tag-is in omega arith
+    pub few-at : (w .tag ≡ 6 → ⊥) → length (elements ws (w .b)) ≤ 16
+    few-at k = let t = e .tag-is in let lo = is .term .low in rw (e .b-is) (f .good r (is .below) .few (omega arith) (is .term .high))
 
     -- an occurrence's arguments can be read
     pub counts-at : tag ws r ≡ 9 → Counts ws (w .b)
@@ -68,8 +69,18 @@ module _ (R n : ℕ) (home : ℕ → ℕ) (ws ss : List ℕ) (used b r : ℕ) (f
         let he = f .held in
         omega arith
 
-    pub narrows : tag ws r ≡ 9 → (kept : Map) → Whole kept → Narrowing ws ss n used R (w .a) kept
-    narrows nine kept whole =
+    -- an occurrence's arguments name variables, and NONE is none
+    pub names-at : tag ws r ≡ 9 → All (λ v. v < NONE) (varsOf ws (w .b))
+    unfolding variables arguments
+    names-at nine =
+        let lt = is .below in
+        let wi = f .within in
+        let fe = f .few in
+        rw (e .b-is) (all-map (λ v. v ≤ limit r) (λ v. v < NONE) (λ v q. omega arith) (variables ws r) (occurrence-low R n home (store ws ss used) r f lt nine))
+
+    -- a hole with as many context variables as the occurrence has arguments can be narrowed
+    pub narrows : tag ws r ≡ 9 → (kept : Map) → Whole kept → length (elements ws (fieldA ws (fieldA ws r))) ≡ kept .len → Narrowing ws ss n used R (w .a) kept
+    narrows nine kept whole arity =
         let o = f .good r (is .below) .occ nine in
         let a = o .below in
         let lt = is .below in
@@ -84,10 +95,11 @@ module _ (R n : ℕ) (home : ℕ → ℕ) (ws ss : List ℕ) (used b r : ℕ) (f
           hole = omega arith;
           held = omega arith;
           context = listed-of R n home (store ws ss used) (fieldA ws (fieldA ws r)) f (λ q. let c = hl q .0 in (omega arith, hl q .1));
+          arity = arity;
         })
 
 module _ (R n : ℕ) (home : ℕ → ℕ) (ws ss : List ℕ) (used b l : ℕ) (f : Fine R n home (store ws ss used)) (is : Args ws home b used l) where
-  pub list-at : Listed ws l
+  list-at : Listed ws l
   list-at = listed-of R n home (store ws ss used) l f (is .here)
 
   module _ (ne : l ≡ NONE → ⊥) where
@@ -98,11 +110,15 @@ module _ (R n : ℕ) (home : ℕ → ℕ) (ws ss : List ℕ) (used b l : ℕ) (f
     cell-at = let a = is .here ne in f .good l (a .0) .cell (a .1)
 
     module _ (w : Record) (e : IsRecord ws l w) where
-      pub head-low : w .a < l
-      head-low = let c = cell-at .elem in let a = e .a-is in omega arith
-
-      pub rest-low : size (w .b) ≤ l
-      rest-low = let c = cell-at .rest in rw (e .b-is) (size-below (fieldB ws l) l (λ q. c q .0))
+      -- the first element and the rest are lower
+      pub lower-at : (suc (w .a) < size l) × (size (w .b) < size l)
+      lower-at =
+          let c = cell-at in
+          let x = c .elem in
+          let a = e .a-is in
+          let r : size (fieldB ws l) ≤ l = size-below (fieldB ws l) l (λ q. c .rest q .0) in
+          let s = size-real l ne in
+          (omega arith, rw (e .b-is) (omega arith))
 
       pub list-is : elements ws l ≡ w .a ∷ elements ws (w .b)
       list-is = rw (e .a-is, e .b-is) (elements-cell ws l ne list-at)
@@ -114,3 +130,7 @@ module _ (R n : ℕ) (home : ℕ → ℕ) (ws ss : List ℕ) (used b l : ℕ) (f
           let c = cell-at .rest in
           let i = is .here ne .0 in
           (al .0, record { here = rw (e .b-is) (λ q. let d = c q .0 in (omega arith, c q .1)); all = al .1 })
+
+      -- one more element is counted
+      pub room-at : (k : ℕ) → k + length (elements ws l) ≤ 16 → (k + 1) + length (elements ws (w .b)) ≤ 16
+      room-at k h = let c : k + length (w .a ∷ elements ws (w .b)) ≤ 16 = rw list-is at h in omega arith

@@ -1,34 +1,34 @@
 -- What showing asks, and that it still holds where the code goes on.
 use Prim.Native.Nat.{ℕ, suc, _+_, _*_, _<_, _≤_}
 use mathlib.Core.Path.{_≡_, refl, sym, _∙_}
-use mathlib.Core.List.{List, _∷_}
+use mathlib.Core.List.{List}
+use mathlib.Core.Bool.{false}
 use native.Mathlib.Omega.{arith}
+use native.Mathlib.Decide.{ℕ-discrete}
 use lib.ListN.{length, getD}
 use mir.Syntax.{w32}
 use mir.Val.{Fits}
-use Rattle.rules.specs.declared.Found.{Found}
-use Rattle.rules.specs.declared.Found.the-variants.{At}
-use Rattle.rules.specs.declared.Failure.{Failure}
 use Rattle.store.specs.declared.Walked.{Walked}
-use Rattle.store.specs.declared.Walked.the-variants.{Root, Failed}
 use Rattle.table.specs.declared.Record.{Record}
 use Rattle.table.specs.Reading.{IsRecord}
 use Rattle.places.specs.declared.Map.{Map}
-use Rattle.rules.specs.Words.{NONE, tag, fieldA, elements}
-use Rattle.rules.specs.Map.{placeOf}
-use Rattle.laws.specs.Lists.{size, size-real}
+use Rattle.rules.specs.Words.{NONE, tag, fieldA, fieldB, elements, arguments, variables}
+use Rattle.laws.specs.Lists.{size}
 use Rattle.invariants.specs.Floor.{Sub, Args, Fine}
 use Rattle.invariants.specs.Grow.{sub-less, args-less}
 use Rattle.invariants.specs.Places.{Low, followed}
 use Rattle.invariants.specs.Rise.{reach, raised-on, Rises, rises}
+use Rattle.promise.specs.ShowKnown.{ShowKnown, ShowAllKnown, HoleKnown, show-body, show-constant, show-variable, show-hole, hole-solution}
 use Rattle.store.specs.Said.{store, Then, over, under}
 use Rattle.places.specs.Maps.{mapOf, Whole}
 use Rattle.places.specs.Looking.{Looks}
 use Rattle.places.specs.Lists.{Counts, varsOf}
 use Rattle.places.specs.Follow.{Followed}
 use Rattle.narrow.specs.Writing.{Writing}
-use Rattle.rewrite.specs.Parts.{term-read, body-at, args-at, size-args, nine-at, counts-at, cell-read, head-low, rest-low, list-is, both-at}
-use Rattle.show.specs.Shows.{ShowsT, ShowsL, ShowsH, show-lambda, show-constant, show-variable, show-occurrence, hole-expanded, args-stops, args-goes}
+use Rattle.rewrite.specs.Renamed.{Renaming}
+use Rattle.rewrite.specs.Levels.{Headed, of-constant}
+use Rattle.rewrite.specs.Parts.{term-read, body-at, args-at, size-args, few-at, counts-at}
+use Rattle.show.specs.Shows.{ShowsT, ShowsL, ShowsH, show-lambda, show-rigid, show-occurrence, hole-expanded}
 
 -- the table that is read: of a final store of the machine
 pub record Final (ws ss : List ℕ) : Type 0 where
@@ -43,7 +43,7 @@ pub record On (O : ℕ) (m : Map) (os : List ℕ) (F d k : ℕ) : Type 0 where
   pub room : 4 * O ≤ length os
   pub whole : Whole m
   pub top : ℕ
-  pub low : Low (mapOf m) top
+  pub low : Low (mapOf false m) top
   pub fits : top + d + reach 4096 F k < 134217728
   pub floor : 1 ≤ F
 
@@ -51,24 +51,28 @@ pub record ReadyT (O : ℕ) (m : Map) (ws ss os : List ℕ) (F d r : ℕ) : Type
   pub table : Final ws ss
   pub is : Sub ws (table .home) F (table .used) r
   pub on : On O m os F d (suc r)
+  pub known : ShowKnown (table .R) (store ws ss (table .used)) (mapOf false m) d r
 
 pub record ReadyL (O : ℕ) (m : Map) (ws ss os : List ℕ) (F d l : ℕ) : Type 0 where
   pub table : Final ws ss
   pub is : Args ws (table .home) F (table .used) l
+  pub few : length (elements ws l) ≤ 16
   pub on : On O m os F d (size l)
+  pub known : ShowAllKnown (table .R) (store ws ss (table .used)) (mapOf false m) d l
 
 pub record ReadyH (O : ℕ) (m : Map) (ws ss os : List ℕ) (F h : ℕ) : Type 0 where
   pub table : Final ws ss
   pub held : h < length ss
   pub is : (getD ss h NONE ≡ NONE → ⊥) → Sub ws (table .home) F (table .used) (getD ss h NONE)
   pub on : On O m os F 0 4097
+  pub known : HoleKnown (table .R) (store ws ss (table .used)) (mapOf false m) h
 
 module _ {O : ℕ} {m : Map} {os : List ℕ} {F d k : ℕ} where
-  looks-on : On O m os F d k → Looks m d
+  looks-on : On O m os F d k → Looks false m d
   looks-on o = let f = o .fits in record { top = o .top; whole = o .whole; low = o .low; fits = omega arith }
 
   -- the same output and map, elsewhere and deeper
-  on-part : (c j : ℕ) (os₁ : List ℕ) → On O m os F d k → length os₁ ≡ length os → c + reach 4096 F j ≤ d + reach 4096 F k → On O m os₁ F c j
+  pub on-part : (c j : ℕ) (os₁ : List ℕ) → On O m os F d k → length os₁ ≡ length os → c + reach 4096 F j ≤ d + reach 4096 F k → On O m os₁ F c j
   on-part c j os₁ o e le =
       let f = o .fits in
       let r = o .room in
@@ -79,11 +83,14 @@ module _ {O : ℕ} {m : Map} {ws ss os : List ℕ} {F d r : ℕ} where
     pub to-read : 4 * r + 3 < length ws
     to-read = let t = h .table in term-read (t .R) (t .n) (t .home) ws ss (t .used) F r (t .fine) (h .is)
 
-    pub to-look : Looks m d
+    pub to-look : Looks false m d
     to-look = looks-on (h .on)
 
     pub to-depth : Fits w32 (d + 1)
     to-depth = let f = h .on .fits in record { fits = omega arith }
+
+    pub to-push : 4 * O ≤ length os
+    to-push = h .on .room
 
     pub to-then : (os₁ : List ℕ) → length os₁ ≡ length os → 4 * O ≤ length os₁
     to-then os₁ e = let c = h .on .room in omega arith
@@ -95,49 +102,77 @@ module _ {O : ℕ} {m : Map} {ws ss os : List ℕ} {F d r : ℕ} where
     to-above = let l = low-at in record { fits = omega arith }
 
   module _ (w : Record) (e : IsRecord ws r w) (h : ReadyT O m ws ss os F d r) where
-    body : w .tag ≡ 6 → Sub ws (h .table .home) F r (w .a)
-    body t = let b = h .table in body-at (b .R) (b .n) (b .home) ws ss (b .used) F r (b .fine) (h .is) w e t
+    -- the body of a lambda
+    module _ (k : w .tag ≡ 6) where
+      body : Sub ws (h .table .home) F r (w .a)
+      body = let b = h .table in body-at (b .R) (b .n) (b .home) ws ss (b .used) F r (b .fine) (h .is) w e k
 
-    args : (w .tag ≡ 6 → ⊥) → Args ws (h .table .home) F r (w .b)
-    args k = let b = h .table in args-at (b .R) (b .n) (b .home) ws ss (b .used) F r (b .fine) (h .is) w e k
+      pub fall-body : (t : ℕ) → reach 4096 F (suc r) ≡ t → reach 4096 F (suc (w .a)) < t
+      fall-body t z = let b = body .below in omega arith
 
-    small : (w .tag ≡ 6 → ⊥) → size (w .b) ≤ r
-    small k = let b = h .table in size-args (b .R) (b .n) (b .home) ws ss (b .used) F r (b .fine) (h .is) w e k
+      pub to-body : ReadyT O m ws ss os F (d + 1) (w .a)
+      to-body =
+          let b = body .below in
+          let i = h .is .below in
+          record {
+            table = h .table;
+            is = sub-less ws (h .table .home) F F r (h .table .used) (w .a) body (omega arith) (omega arith);
+            on = on-part (d + 1) (suc (w .a)) os (h .on) refl (omega arith);
+            known = rw (e .a-is) (show-body (h .known) (sym (e .tag-is) ∙ k));
+          }
 
-    pub fall-body : (t : ℕ) → reach 4096 F (suc r) ≡ t → w .tag ≡ 6 → reach 4096 F (suc (w .a)) < t
-    fall-body t z k = let b = body k .below in omega arith
+      pub shows-lambda : (os₁ : List ℕ) (used : ℕ) (x : Walked) (os₂ : List ℕ) (y : Walked)
+          → ShowsT O m ws ss os used F (d + 1) (w .a) os₁ x → Then 0 (under O 6 0) os₁ x os₂ y → ShowsT O m ws ss os used F d r os₂ y
+      shows-lambda os₁ used x os₂ y p q = show-lambda O m ws ss os used F d r w e os₁ x os₂ y k (fall-body _ refl) p q
 
-    pub to-body : w .tag ≡ 6 → ReadyT O m ws ss os F (d + 1) (w .a)
-    to-body k =
-        let b = body k .below in
-        let i = h .is .below in
-        record { table = h .table; is = sub-less ws (h .table .home) F F r (h .table .used) (w .a) (body k) (omega arith) (omega arith); on = on-part (d + 1) (suc (w .a)) os (h .on) refl (omega arith) }
+    -- a rigid head
+    pub to-name : w .tag ≡ 8 → Renaming m d (w .a)
+    to-name t =
+        let p = show-variable (h .known) (sym (e .tag-is) ∙ t) .0 in
+        record { looks = looks-on (h .on); to = p .0; has = rw (e .a-is) (p .1) }
 
-    pub fall-args : (t : ℕ) → reach 4096 F (suc r) ≡ t → (w .tag ≡ 6 → ⊥) → reach 4096 F (size (w .b)) < t
-    fall-args t z k = let s = small k in omega arith
+    module _ (a : w .tag ≡ 6 → ⊥) (b : w .tag ≡ 9 → ⊥) where
+      pub head-kept : (x : ℕ) → (w .tag ≡ 8 → ⊥) → x ≡ w .a → Headed (mapOf false m) d w x
+      head-kept x c q = let lo = h .is .term .low in let hi = h .is .term .high in let z = e .tag-is in of-constant (omega arith) (sym q)
 
-    pub to-args : (w .tag ≡ 6 → ⊥) → ReadyL O m ws ss os F d (w .b)
-    to-args k =
-        let s = small k in
-        let i = h .is .below in
-        record { table = h .table; is = args-less ws (h .table .home) F F r (h .table .used) (w .b) (args k) (omega arith) (omega arith); on = on-part d (size (w .b)) os (h .on) refl (omega arith) }
+      small : size (w .b) ≤ r
+      small = let t = h .table in size-args (t .R) (t .n) (t .home) ws ss (t .used) F r (t .fine) (h .is) w e a
 
-    pub shows-lambda : (os₁ : List ℕ) (used : ℕ) (x : Walked) (os₂ : List ℕ) (y : Walked) → w .tag ≡ 6
-        → ShowsT O m ws ss os used F (d + 1) (w .a) os₁ x → Then 0 (under O 6 0) os₁ x os₂ y → ShowsT O m ws ss os used F d r os₂ y
-    shows-lambda os₁ used x os₂ y t p q = show-lambda O m ws ss os used F d r w e os₁ x os₂ y t (fall-body _ refl t) p q
+      pub fall-args : (t : ℕ) → reach 4096 F (suc r) ≡ t → reach 4096 F (size (w .b)) < t
+      fall-args t z = let s = small in omega arith
 
-    pub shows-constant : (os₁ : List ℕ) (used : ℕ) (x : Walked) (os₂ : List ℕ) (y : Walked) → (w .tag ≡ 6 → ⊥) → w .tag ≡ 7
-        → ShowsL O m ws ss os used F d (w .b) os₁ x → Then 0 (over O 7 (w .a)) os₁ x os₂ y → ShowsT O m ws ss os used F d r os₂ y
-    shows-constant os₁ used x os₂ y k t p q = show-constant O m ws ss os used F d r w e os₁ x os₂ y t (fall-args _ refl k) p q
+      knows : ShowAllKnown (h .table .R) (store ws ss (h .table .used)) (mapOf false m) d (w .b)
+      knows = rw (e .b-is) (go (ℕ-discrete (tag ws r) 7))
+        where
+          go : Dec (tag ws r ≡ 7) → ShowAllKnown (h .table .R) (store ws ss (h .table .used)) (mapOf false m) d (fieldB ws r)
+          go (yes t) = show-constant (h .known) t
+          go (no t) =
+              let lo = h .is .term .low in
+              let hi = h .is .term .high in
+              let z = e .tag-is in
+              show-variable (h .known) (omega arith) .1
 
-    pub shows-variable : (s : Found) (v : ℕ) (os₁ : List ℕ) (used : ℕ) (x : Walked) (os₂ : List ℕ) (y : Walked) → (w .tag ≡ 6 → ⊥) → w .tag ≡ 8 → placeOf (mapOf m) d (w .a) ≡ s → s ≡ At v
-        → ShowsL O m ws ss os used F d (w .b) os₁ x → Then 0 (over O 8 v) os₁ x os₂ y → ShowsT O m ws ss os used F d r os₂ y
-    shows-variable s v os₁ used x os₂ y k t i j p q = show-variable O m ws ss os used F d r w e s v os₁ x os₂ y t i j (fall-args _ refl k) p q
+      pub to-args : ReadyL O m ws ss os F d (w .b)
+      to-args =
+          let s = small in
+          let i = h .is .below in
+          let t = h .table in
+          record {
+            table = t;
+            is = args-less ws (t .home) F F r (t .used) (w .b) (args-at (t .R) (t .n) (t .home) ws ss (t .used) F r (t .fine) (h .is) w e a) (omega arith) (omega arith);
+            few = few-at (t .R) (t .n) (t .home) ws ss (t .used) F r (t .fine) (h .is) w e a;
+            on = on-part d (size (w .b)) os (h .on) refl (omega arith);
+            known = knows;
+          }
+
+      pub shows-rigid : (v : ℕ) (os₁ : List ℕ) (used : ℕ) (x : Walked) (os₂ : List ℕ) (y : Walked) → Headed (mapOf false m) d w v
+          → ShowsL O m ws ss os used F d (w .b) os₁ x → Then 0 (over O (w .tag) v) os₁ x os₂ y → ShowsT O m ws ss os used F d r os₂ y
+      shows-rigid v os₁ used x os₂ y t p q = show-rigid O m ws ss os used F d r w e v os₁ x os₂ y t (fall-args _ refl) p q
 
     -- an occurrence
-    module _ (a : w .tag ≡ 6 → ⊥) (b : w .tag ≡ 7 → ⊥) (c : w .tag ≡ 8 → ⊥) where
+    module _ (k : w .tag ≡ 9) where
       nine : tag ws r ≡ 9
-      nine = let t = h .table in nine-at (t .R) (t .n) (t .home) ws ss (t .used) F r (t .fine) (h .is) w e a b c
+      nine = sym (e .tag-is) ∙ k
 
       pub to-counts : Counts ws (w .b)
       to-counts = let t = h .table in counts-at (t .R) (t .n) (t .home) ws ss (t .used) F r (t .fine) (h .is) w e nine
@@ -158,7 +193,8 @@ module _ {O : ℕ} {m : Map} {ws ss os : List ℕ} {F d r : ℕ} where
           let ri : Rises (t .R) (t .home) (store ws ss (t .used)) F r (r + 1) (getD ss (fieldA ws r) NONE) = rw (← raised-on (t .n) F r z) (rises (t .R) (t .n) (t .home) (store ws ss (t .used)) F r (t .fine) (h .is .below) nine (h .is .up) ne₁) in
           rw (e .a-is) (ri .sub)
 
-      pub to-hole : (next : Map) → Followed ws m d (w .b) next → ReadyH O next ws ss os (r + 1) (w .a)
+      pub to-hole : (next : Map) → Followed ws false m d (w .b) next → ReadyH O next ws ss os (r + 1) (w .a)
+      unfolding variables arguments
       to-hole next f =
           let t = h .table in
           let o = t .fine .good r (h .is .below) .occ nine .below in
@@ -177,13 +213,14 @@ module _ {O : ℕ} {m : Map} {ws ss os : List ℕ} {F d r : ℕ} where
               room = h .on .room;
               whole = f .whole;
               top = h .on .top + d;
-              low = rw (f .run) (followed (mapOf m) d (h .on .top) 0 (varsOf ws (w .b)) (h .on .low) .low);
+              low = rw (f .run) (followed (mapOf false m) d (h .on .top) 0 (varsOf ws (w .b)) (h .on .low) .low);
               fits = omega arith;
               floor = omega arith;
             };
+            known = rw (f .run, e .a-is, e .b-is) (show-hole (h .known) nine);
           }
 
-      pub shows-occurrence : (next : Map) (used : ℕ) (os₁ : List ℕ) (x : Walked) → Followed ws m d (w .b) next → ShowsH O next ws ss os used (r + 1) (w .a) os₁ x → ShowsT O m ws ss os used F d r os₁ x
+      pub shows-occurrence : (next : Map) (used : ℕ) (os₁ : List ℕ) (x : Walked) → Followed ws false m d (w .b) next → ShowsH O next ws ss os used (r + 1) (w .a) os₁ x → ShowsT O m ws ss os used F d r os₁ x
       shows-occurrence next used os₁ x f p = show-occurrence O m ws ss os used F d r w e next (r + 1) os₁ x nine f (fall-hole _ refl) p
 
 -- holes
@@ -191,8 +228,8 @@ module _ {O : ℕ} {m : Map} {ws ss os : List ℕ} {F h : ℕ} (g : ReadyH O m w
   pub to-solution : h < length ss
   to-solution = g .held
 
-  pub to-write : (used : ℕ) → Writing os 0 used O m 0
-  to-write used = record { room = g .on .room; since = omega arith; whole = g .on .whole; at = omega arith }
+  pub to-write : (used : ℕ) → Writing os 0 used O m
+  to-write used = record { room = g .on .room; since = omega arith; whole = g .on .whole }
 
   module _ (t : ℕ) (st : getD ss h NONE ≡ t) (ne : t ≡ NONE → ⊥) where
     at : Sub ws (g .table .home) F (g .table .used) t
@@ -202,42 +239,7 @@ module _ {O : ℕ} {m : Map} {ws ss os : List ℕ} {F h : ℕ} (g : ReadyH O m w
     fall-solution k z = let b = at .below in let f = g .table .fine in let w = f .within in let c = f .few in omega arith
 
     pub to-term : ReadyT O m ws ss os F 0 t
-    to-term = let l = fall-solution _ refl in record { table = g .table; is = at; on = on-part 0 (suc t) os (g .on) refl (omega arith) }
+    to-term = let l = fall-solution _ refl in record { table = g .table; is = at; on = on-part 0 (suc t) os (g .on) refl (omega arith); known = hole-solution (g .known) t st ne }
 
     pub shows-solution : (used : ℕ) (os₁ : List ℕ) (x : Walked) → ShowsT O m ws ss os used F 0 t os₁ x → ShowsH O m ws ss os used F h os₁ x
     shows-solution used os₁ x p = hole-expanded O m ws ss os used F h t st os₁ x ne (fall-solution _ refl) p
-
--- lists
-module _ {O : ℕ} {m : Map} {ws ss os : List ℕ} {F d l : ℕ} where
-  pub to-read-cell : (l ≡ NONE → ⊥) → ReadyL O m ws ss os F d l → 4 * l + 3 < length ws
-  to-read-cell ne h = let t = h .table in cell-read (t .R) (t .n) (t .home) ws ss (t .used) F l (t .fine) (h .is) ne
-
-  pub to-then-cell : (os₁ os₂ : List ℕ) → ReadyL O m ws ss os F d l → length os₁ ≡ length os → length os₂ ≡ length os₁ → 4 * O ≤ length os₂
-  to-then-cell os₁ os₂ h e f = let c = h .on .room in omega arith
-
-  module _ (w : Record) (ne : l ≡ NONE → ⊥) (e : IsRecord ws l w) (h : ReadyL O m ws ss os F d l) where
-    parts : Sub ws (h .table .home) F (h .table .used) (w .a) × Args ws (h .table .home) F (h .table .used) (w .b)
-    parts = let t = h .table in both-at (t .R) (t .n) (t .home) ws ss (t .used) F l (t .fine) (h .is) ne w e
-
-    is-cell : elements ws l ≡ w .a ∷ elements ws (w .b)
-    is-cell = let t = h .table in list-is (t .R) (t .n) (t .home) ws ss (t .used) F l (t .fine) (h .is) ne w e
-
-    pub fall-head : (t : ℕ) → reach 4096 F (size l) ≡ t → reach 4096 F (suc (w .a)) < t
-    fall-head t z = let b = h .table in let a = head-low (b .R) (b .n) (b .home) ws ss (b .used) F l (b .fine) (h .is) ne w e in let s = size-real l ne in omega arith
-
-    pub fall-rest : (t : ℕ) → reach 4096 F (size l) ≡ t → reach 4096 F (size (w .b)) < t
-    fall-rest t z = let b = h .table in let a = rest-low (b .R) (b .n) (b .home) ws ss (b .used) F l (b .fine) (h .is) ne w e in let s = size-real l ne in omega arith
-
-    pub to-head : ReadyT O m ws ss os F d (w .a)
-    to-head = let f = fall-head _ refl in record { table = h .table; is = parts .0; on = on-part d (suc (w .a)) os (h .on) refl (omega arith) }
-
-    pub to-rest : (os₁ : List ℕ) → length os₁ ≡ length os → ReadyL O m ws ss os₁ F d (w .b)
-    to-rest os₁ q = let f = fall-rest _ refl in record { table = h .table; is = parts .1; on = on-part d (size (w .b)) os₁ (h .on) q (omega arith) }
-
-    module _ (used : ℕ) (os₁ : List ℕ) (x : Walked) (p : ShowsT O m ws ss os used F d (w .a) os₁ x) where
-      pub list-stops : (e₁ : Failure) → x ≡ Failed e₁ → ShowsL O m ws ss os used F d l os₁ (Failed e₁)
-      list-stops e₁ q = args-stops O m ws ss os used F d l (w .a) (w .b) os₁ x is-cell (fall-head _ refl) p e₁ q
-
-      pub list-goes : (y u₁ : ℕ) (os₂ : List ℕ) (z : Walked) (os₃ : List ℕ) (out : Walked) → x ≡ Root y u₁
-          → ShowsL O m ws ss os₁ u₁ F d (w .b) os₂ z → Then 0 (over O 5 y) os₂ z os₃ out → ShowsL O m ws ss os used F d l os₃ out
-      list-goes y u₁ os₂ z os₃ out q k t = args-goes O m ws ss os used F d l (w .a) (w .b) os₁ x is-cell (fall-head _ refl) p y u₁ os₂ z os₃ out (fall-rest _ refl) q k t

@@ -1,19 +1,16 @@
 // Show: one hole's answer with all solved holes expanded, written into the output.
+use narrow::push_cells;
 use narrow::push_occurrence;
 use places::Map;
-use places::add;
-use places::count;
-use places::empty;
 use places::follow;
-use places::place_of;
-use rules::Failure;
-use rules::Found;
+use places::in_order;
+use rewrite::renamed;
 use store::Walked;
+use store::push;
 use store::solution_of;
 use store::then_over;
 use store::then_under;
-use table::CA;
-use table::CE;
+use table::HA;
 use table::Hole;
 use table::LA;
 use table::NONE;
@@ -26,81 +23,49 @@ ghost use Rattle.rules.specs.Show.{answer as answerOf};
 ghost use Rattle.store.specs.Said.{store, shown};
 ghost use Rattle.show.specs.Shows.{ShowsT, ShowsL, ShowsH};
 ghost use Rattle.show.specs.Ready.{ReadyT, ReadyL, ReadyH};
-ghost use Rattle.show.specs.Answer.{Answering, Ordering, Ordered};
+ghost use Rattle.show.specs.Answer.{Answering};
 
-// A term of the table written to an output of `room` records, its variables renamed by the map. The floor is there for the proof
-// that showing ends: no record below it is read, and it rises at each solved hole.
+// An output of `room` records, and the floor. The floor is there for the proof that showing ends: no record below it is read, and it
+// rises at each solved hole.
+struct Task {
+    room: u32,
+    floor: u32,
+}
+
+// A term of the table written to the output, its variables renamed by the map.
 fn show_term(
     table: &[u32],
     solutions: &[u32],
     output: &mut [u32],
+    task: Task,
     used: u32,
-    room: u32,
     map: Map,
-    floor: u32,
     depth: u32,
     at: u32,
 ) -> Walked
-    requires { ⌜ ReadyT room map (now table) (now solutions) (now output) floor depth at ⌝ }
-    ensures { λ r. ⌜ ShowsT room map (now (table .entry)) (now (solutions .entry)) (now (output .entry)) used floor depth at (now (output .exit)) r ⌝ }
+    requires { ⌜ ReadyT (task .room) map (now table) (now solutions) (now output) (task .floor) depth at ⌝ }
+    ensures { λ r. ⌜ ShowsT (task .room) map (now (table .entry)) (now (solutions .entry)) (now (output .entry)) used (task .floor) depth at (now (output .exit)) r ⌝ }
 {
     let rec = read(table, at);
     if rec.tag == LA {
-        let body = show_term(
-            table,
-            solutions,
-            output,
-            used,
-            room,
-            map,
-            floor,
-            depth + 1,
-            rec.a,
-        );
-        return then_under(output, 0, room, LA, 0, body);
+        let body = show_term(table, solutions, output, task, used, map, depth + 1, rec.a);
+        return then_under(output, 0, task.room, LA, 0, body);
     }
-    if rec.tag == CA {
-        let args = show_args(
-            table,
-            solutions,
-            output,
-            used,
-            room,
-            map,
-            floor,
-            depth,
-            rec.b,
-        );
-        return then_over(output, 0, room, CA, rec.a, args);
+    if rec.tag == HA {
+        let next = follow(table, map, false, depth, rec.b);
+        let mut below = task;
+        below.floor = at + 1;
+        return show_hole(table, solutions, output, below, used, Hole(rec.a), next);
     }
+    let mut head = rec.a;
     if rec.tag == VA {
-        let Found::At(v) = place_of(map, depth, Variable(rec.a)) else {
-            return Walked::Failed(Failure::Escape);
-        };
-        let args = show_args(
-            table,
-            solutions,
-            output,
-            used,
-            room,
-            map,
-            floor,
-            depth,
-            rec.b,
-        );
-        return then_over(output, 0, room, VA, v, args);
+        head = renamed(map, depth, Variable(rec.a));
     }
-    let next = follow(table, map, depth, rec.b);
-    show_hole(
-        table,
-        solutions,
-        output,
-        used,
-        room,
-        Hole(rec.a),
-        next,
-        at + 1,
-    )
+    if rec.b == NONE {
+        return push(output, 0, used, task.room, rec.tag, head, NONE);
+    }
+    let args = show_args(table, solutions, output, task, used, map, depth, rec.b);
+    then_over(output, 0, task.room, rec.tag, head, args)
 }
 
 // An argument list: arguments in order, then their cells from last to first.
@@ -108,50 +73,34 @@ fn show_args(
     table: &[u32],
     solutions: &[u32],
     output: &mut [u32],
+    task: Task,
     used: u32,
-    room: u32,
     map: Map,
-    floor: u32,
     depth: u32,
     list: u32,
 ) -> Walked
-    requires { ⌜ ReadyL room map (now table) (now solutions) (now output) floor depth list ⌝ }
-    ensures { λ r. ⌜ ShowsL room map (now (table .entry)) (now (solutions .entry)) (now (output .entry)) used floor depth list (now (output .exit)) r ⌝ }
+    requires { ⌜ ReadyL (task .room) map (now table) (now solutions) (now output) (task .floor) depth list ⌝ }
+    ensures { λ r. ⌜ ShowsL (task .room) map (now (table .entry)) (now (solutions .entry)) (now (output .entry)) used (task .floor) depth list (now (output .exit)) r ⌝ }
 {
-    if list == NONE {
-        return Walked::Root { root: NONE, used };
-    }
-    let cell = read(table, list);
-    match show_term(
-        table,
-        solutions,
-        output,
-        used,
-        room,
-        map,
-        floor,
-        depth,
-        cell.a,
-    ) {
-        Walked::Failed(e) => Walked::Failed(e),
-        Walked::Root {
-            root: head,
-            used: then,
-        } => {
-            let rest = show_args(
-                table,
-                solutions,
-                output,
-                then,
-                room,
-                map,
-                floor,
-                depth,
-                cell.b,
-            );
-            then_over(output, 0, room, CE, head, rest)
+    let mut noted = [0u32; 16];
+    let mut k = 0;
+    let mut taken = used;
+    let mut left = list;
+    while left != NONE {
+        let cell = read(table, left);
+        match show_term(table, solutions, output, task, taken, map, depth, cell.a) {
+            Walked::Failed(e) => {
+                return Walked::Failed(e);
+            }
+            Walked::Root { root, used: then } => {
+                noted[k] = root;
+                k += 1;
+                taken = then;
+            }
         }
+        left = cell.b;
     }
+    push_cells(output, 0, taken, task.room, &noted, k)
 }
 
 // A hole under a map of its context: a solved hole is expanded, an unsolved one is written.
@@ -159,32 +108,19 @@ fn show_hole(
     table: &[u32],
     solutions: &[u32],
     output: &mut [u32],
+    task: Task,
     used: u32,
-    room: u32,
     hole: Hole,
     map: Map,
-    floor: u32,
 ) -> Walked
-    requires { ⌜ ReadyH room map (now table) (now solutions) (now output) floor (hole .0) ⌝ }
-    ensures { λ r. ⌜ ShowsH room map (now (table .entry)) (now (solutions .entry)) (now (output .entry)) used floor (hole .0) (now (output .exit)) r ⌝ }
+    requires { ⌜ ReadyH (task .room) map (now table) (now solutions) (now output) (task .floor) (hole .0) ⌝ }
+    ensures { λ r. ⌜ ShowsH (task .room) map (now (table .entry)) (now (solutions .entry)) (now (output .entry)) used (task .floor) (hole .0) (now (output .exit)) r ⌝ }
 {
     let t = solution_of(solutions, hole);
     if t == NONE {
-        return push_occurrence(output, 0, used, room, hole, map, false);
+        return push_occurrence(output, 0, used, task.room, hole, map, false);
     }
-    show_term(table, solutions, output, used, room, map, floor, 0, t)
-}
-
-// The context variables in order, from j to k, after what there is.
-fn in_order(k: usize, j: u32, acc: Map) -> Map
-    requires { ⌜ Ordering k j acc ⌝ }
-    ensures { λ r. ⌜ Ordered k j acc r ⌝ }
-{
-    if j as usize == k {
-        return acc;
-    }
-    let more = add(acc, j, j);
-    in_order(k, j + 1, more)
+    show_term(table, solutions, output, task, used, map, 0, t)
 }
 
 // The answer of an input hole, over its context variables in order.
@@ -193,7 +129,7 @@ pub fn answer(table: &[u32], solutions: &[u32], output: &mut [u32], room: u32, h
     ensures { λ r. ⌜ answerOf room (now (table .entry)) (hole .0) (store (now (output .entry)) (now (solutions .entry)) 0) ≡ shown (now (output .exit)) (now (solutions .entry)) r ⌝ }
 {
     let rec = read(table, hole.0);
-    let k = count(table, rec.a);
-    let map = in_order(k, 0, empty());
-    show_hole(table, solutions, output, 0, room, hole, map, 1)
+    let map = in_order(table, rec.a);
+    let task = Task { room, floor: 1 };
+    show_hole(table, solutions, output, task, 0, hole, map)
 }

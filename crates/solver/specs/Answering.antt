@@ -2,6 +2,7 @@
 use Prim.Native.Nat.{ℕ, zero, suc, _+_, _-_, _*_, _<_, _≤_}
 use mathlib.Core.Path.{_≡_, refl, sym, ap, _∙_}
 use mathlib.Core.List.{List}
+use mathlib.Core.Bool.{Bool, true}
 use mathlib.Core.Logic.{inl, inr}
 use native.Mathlib.Omega.{arith}
 use native.Mathlib.Decide.{ℕ-discrete}
@@ -12,6 +13,8 @@ use borrow.Author.Tests.{ltb-true, eqb-true}
 use Rattle.rules.specs.declared.Failure.{Failure}
 use Rattle.rules.specs.declared.Failure.the-variants.{Clash, Escape, Occurs, QueueFull, TableFull}
 use Rattle.rules.specs.declared.Reply.{Reply}
+use Rattle.rules.specs.Lists.{below}
+use Rattle.rules.specs.Map.{toVariables}
 use Rattle.rules.specs.Words.{NONE, HO, CE, tag, fieldA, has, elements}
 use Rattle.rules.specs.Answers.{number, reply, records, pairs}
 use Rattle.rules.specs.Store.{Store, Out, goes, fails, spent}
@@ -30,6 +33,12 @@ use Rattle.invariants.specs.Admit.{Admitted, Says, refusal-says}
 use Rattle.invariants.specs.Machine.{machine-grows}
 use Rattle.invariants.specs.Run.{Any}
 use Rattle.invariants.specs.Copy.{Nobody}
+use Rattle.promise.specs.Table.{constants, solutionOf}
+use Rattle.promise.specs.Demand.{holesIn}
+use Rattle.promise.specs.Outcomes.{went}
+use Rattle.promise.specs.Admitting.{admitted-is}
+use Rattle.promise.specs.Ending.{Final as Ran, final-good, machine-ends}
+use Rattle.promise.specs.ShowKnown.{HoleKnown, hole-in-order}
 use Rattle.store.specs.declared.Walked.{Walked}
 use Rattle.store.specs.declared.Walked.the-variants.{Root, Failed}
 use Rattle.store.specs.Said.{store, shown}
@@ -47,6 +56,7 @@ pub record Answerable (ws ss : List ℕ) (h : ℕ) : Type 0 where
   pub table : Final ws ss
   pub hole : h < table .used
   pub context : Counts ws (fieldA ws h)
+  pub known : HoleKnown (table .R) (store ws ss (table .used)) (toVariables 0 (below (length (elements ws (fieldA ws h))))) h
 
 -- the reply, and the words left
 pub record Finishes (O : ℕ) (os : List ℕ) (x : Walked) (os₁ : List ℕ) (r : Reply) : Type 0 where
@@ -77,7 +87,7 @@ module _ (os : List ℕ) (O : ℕ) (room : records os ≡ O) where
 
 module _ (ws ss : List ℕ) (h : ℕ) (os : List ℕ) (O : ℕ) (room : records os ≡ O) where
   pub answers : (os₀ : List ℕ) → Answerable ws ss h → length os₀ ≡ length os → Answering O ws ss os₀ h
-  answers os₀ a e = let r = records-room os in record { table = a .table; hole = a .hole; context = a .context; room = omega arith }
+  answers os₀ a e = let r = records-room os in record { table = a .table; hole = a .hole; context = a .context; room = omega arith; known = a .known }
 
   module _ (os₀ : List ℕ) (blank : filled 0 (4 * O) 0 os ≡ os₀) (os₁ : List ℕ) (x : Walked) (said : answer O ws h (store os₀ ss 0) ≡ shown os₁ ss x) where
     -- where the output has too few records, it is cleared again
@@ -124,9 +134,10 @@ module _ (ws ss : List ℕ) (n h : ℕ) (a : Admitted (isHole ws n h) ws ss n) w
           let i = a .in-table in
           few-cells ws n (a .sound) (omega arith) (omega arith) (fieldA ws h) (listed e .0) (listed e .1)
 
-  pub goes-answerable : (s : Store) (q : List Pair) → Grown Nobody (Any {A = List Pair}) (records ws) n (λ i. 0) (start ws ss n) s q → Answerable (s .words) (s .solutions) h
+  pub goes-answerable : (s : Store) (q : List Pair) → Grown Nobody (Any {A = List Pair}) (records ws) n (λ i. 0) (start ws ss n) s q → Ran ws n (records ws) s
+      → Answerable (s .words) (s .solutions) h
   unfolding start
-  goes-answerable s q g =
+  goes-answerable s q g k =
       let lt = input-hole .0 in
       let si = g .fine .since in
       let l = fieldA ws h in
@@ -139,6 +150,7 @@ module _ (ws ss : List ℕ) (n h : ℕ) (a : Admitted (isHole ws n h) ws ss n) w
           list = listed-of (records ws) n (g .home₁) s l (g .fine) (λ ne. let b = listed ne in let b₀ = b .0 in (omega arith, same (4 * l) (omega arith) ∙ b .1));
           few = rw el few-given;
         });
+        known = hole-in-order (constants ws n) (holesIn s) (solutionOf s) (k .holds) (final-good k .0) h (omega arith) (same (4 * h) (omega arith) ∙ input-hole .1);
       }
     where
       same : (i : ℕ) → i < 4 * n → getD (s .words) i 0 ≡ getD ws i 0
@@ -178,11 +190,17 @@ module _ (asked : Asked) (ws ss qs : List ℕ) (n h : ℕ) (ws₁ ss₁ qs₁ : 
   unfolding leaves
   answerable z = go (refusal (isHole ws n h) ws ss n) refl (refusal-says (isHole ws n h) ws ss n)
     where
+      ends : Admitted (isHole ws n h) ws ss n → refusal (isHole ws n h) ws ss n ≡ admitted → (s : Store) (q : List Pair) → machine (records ws) (pairs qs) n (start ws ss n) ≡ goes s q
+          → Ran ws n (records ws) s
+      ends a f s q m =
+          let t : refusal true ws ss n ≡ admitted = ap (λ (b : Bool). refusal b ws ss n) (sym (a .is)) ∙ f in
+          went (rw m at (machine-ends ws ss (pairs qs) n (admitted-is ws ss n t)))
+
       ran : Admitted (isHole ws n h) ws ss n → refusal (isHole ws n h) ws ss n ≡ admitted → (o : Out (List Pair)) → machine (records ws) (pairs qs) n (start ws ss n) ≡ o
           → Grows Nobody Any (records ws) n (λ i. 0) (start ws ss n) o → Answerable ws₁ ss₁ h
       ran a f (goes s q) m g =
           let b = rw (f, leaves, m) at left in
-          rw (← ap (λ (l : Behind). l .table) b, ← ap (λ (l : Behind). l .solutions) b) (goes-answerable ws ss n h a s q g)
+          rw (← ap (λ (l : Behind). l .table) b, ← ap (λ (l : Behind). l .solutions) b) (goes-answerable ws ss n h a s q g (ends a f s q m))
       ran a f (fails ws₂ ss₂ x) m g =
           let b = rw (f, leaves, m) at left in
           let c : number x ≡ r .answer = ap (λ (l : Behind). l .said .answer) b in

@@ -25,6 +25,8 @@ use Rattle.invariants.specs.Admit.{Admitted, refusal-says}
 use Rattle.invariants.specs.Machine.{machine-grows}
 use Rattle.invariants.specs.Run.{Any}
 use Rattle.invariants.specs.Copy.{Nobody}
+use Rattle.promise.specs.Admitting.{Admitted as Typed, admitted-is}
+use Rattle.promise.specs.Known.{known-start}
 use Rattle.store.specs.Said.{store}
 use Rattle.fill.specs.Filled.{filled-put, filled-again}
 use Rattle.refuse.specs.declared.Asked.the-variants.{Solving}
@@ -40,6 +42,7 @@ use Rattle.solver.specs.Clearing.{Clearing, Cleared, clearing-on, cleari
 -- an admitted input, in R records
 pub record Admits (R n : ℕ) (ws ss : List ℕ) : Type 0 where
   pub input : Admitted true ws ss n
+  pub typed : Typed ws ss n
   pub room : records ws ≡ R
 
 -- what the machine comes to; of the queue only the first C pairs are written
@@ -95,7 +98,7 @@ module _ (R C n : ℕ) (ws ss qs : List ℕ) (h : Started R n ws ss qs C) where
   part-length = let k : 2 * C - 0 ≡ 2 * C = omega arith in mid-len 0 (2 * C) qs (h .room) ∙ k
 
   pub started-part : Started R n ws ss (midOf 0 (2 * C - 0) qs) C
-  started-part = let l = part-length in record { inside = h .inside; low = h .low; room = omega arith; few = h .few; home = h .home; running = h .running }
+  started-part = let l = part-length in record { inside = h .inside; low = h .low; room = omega arith; few = h .few; home = h .home; running = h .running; known = h .known }
 
   pub machines : (ws₁ ss₁ part : List ℕ) (x : Ran) → machine R C n (store ws ss n) ≡ ended ws₁ ss₁ x → length part ≡ length (midOf 0 (2 * C - 0) qs)
       → Machines R C n ws ss qs ws₁ ss₁ (putMid 0 (2 * C - 0) qs part) x
@@ -152,6 +155,7 @@ module _ (R n : ℕ) (ws ss : List ℕ) (a : Admits R n ws ss) where
         few = omega arith;
         home = λ i. 0;
         running = rw (a .room, start-is ws₀ ss₀ c) at (start-running ws ss n (i .sound) (i .in-table) (i .held) C);
+        known = rw (a .room, start-is ws₀ ss₀ c) at (known-start ws ss n (a .typed));
       }
 
   -- where the machine fails, table and solutions are cleared again
@@ -198,7 +202,10 @@ module _ (b : Bool) (ws ss qs : List ℕ) (n : ℕ) (x : Refusal) (e : refusal b
   left-refused k p z = rw (e, z)
 
   pub admits : (R : ℕ) → records ws ≡ R → x ≡ Admits-all → Admits R n ws ss
-  admits R r z = let a : Admitted b ws ss n = rw (e, z) at (refusal-says b ws ss n) in record { input = record { is = refl; in-table = a .in-table; held = a .held; sound = a .sound }; room = r }
+  admits R r z =
+      let a : Admitted b ws ss n = rw (e, z) at (refusal-says b ws ss n) in
+      let t : refusal true ws ss n ≡ admitted = ap (λ (x : Bool). refusal x ws ss n) (sym (a .is)) ∙ e ∙ ap refusalOf z in
+      record { input = record { is = refl; in-table = a .in-table; held = a .held; sound = a .sound }; typed = admitted-is ws ss n t; room = r }
 
   pub admits-fits : x ≡ Admits-all → Fits w32 n
   admits-fits z = let a = admits _ refl z .input .in-table in let f = records-few ws in record { fits = omega arith }

@@ -1,7 +1,8 @@
 -- Step 5: the map that the walk starts with, and the solution recorded.
-use Prim.Native.Nat.{ℕ, _+_, _-_, _*_, _<_}
+use Prim.Native.Nat.{ℕ, _+_, _*_, _<_}
 use mathlib.Core.Path.{_≡_, sym}
 use mathlib.Core.List.{List}
+use mathlib.Core.Bool.{true}
 use native.Mathlib.Omega.{arith}
 use lib.ListN.{length, set}
 use Rattle.rules.specs.declared.Failure.{Failure}
@@ -18,8 +19,10 @@ use Rattle.rules.specs.Walk.{walk, assign}
 use Rattle.invariants.specs.Floor.{Sub, Fine}
 use Rattle.invariants.specs.Assign.{start-low}
 use Rattle.store.specs.Said.{Does², store, shown}
-use Rattle.places.specs.Maps.{mapOf, noPlace}
-use Rattle.places.specs.Numbered.{Numbering, Numbered, positions, numbering-none, positions-none}
+use Rattle.promise.specs.WalkKnown.{WalkKnown}
+use Rattle.places.specs.Maps.{mapOf}
+use Rattle.places.specs.Lists.{Counts}
+use Rattle.places.specs.Arguments.{Arguments, arguments-above}
 use Rattle.rewrite.specs.Parts.{term-read, counts-at, hole-held}
 use Rattle.walk.specs.Walks.{WalksT}
 use Rattle.walk.specs.Ready.{ReadyT}
@@ -31,6 +34,7 @@ pub record Assigning (R n : ℕ) (ws ss : List ℕ) (used l r : ℕ) : Type 0 wh
   pub left : Sub ws home 0 used l
   pub occ : tag ws l ≡ 9
   pub right : Sub ws home 0 used r
+  pub known : WalkKnown R (store ws ss used) r
 
 -- what follows the walk
 abbrev pub recording : ℕ → Store × ℕ → Out ℕ
@@ -52,38 +56,41 @@ module _ {R n : ℕ} {ws ss : List ℕ} {used l r : ℕ} where
   pub assign-read : Assigning R n ws ss used l r → 4 * l + 3 < length ws
   assign-read h = term-read R n (h .home) ws ss used 0 l (h .fine) (h .left)
 
-  pub assign-places : (w : Record) (acc : Map) → IsRecord ws l w → Assigning R n ws ss used l r → noPlace ≡ acc → Numbering ws (w .b) 0 acc
-  assign-places w acc e h q = numbering-none ws (w .b) acc (counts-at R n (h .home) ws ss used 0 l (h .fine) (h .left) w e (h .occ)) q
+  module _ (w : Record) (e : IsRecord ws l w) (h : Assigning R n ws ss used l r) where
+    pub assign-counts : Counts ws (w .b)
+    assign-counts = counts-at R n (h .home) ws ss used 0 l (h .fine) (h .left) w e (h .occ)
 
-  placed : (w : Record) (acc m : Map) → IsRecord ws l w → noPlace ≡ acc → Numbered positions ws (w .b) 0 acc m → Assigning R n ws ss used l r → mapOf m ≡ toPositions 0 (variables ws l)
-  unfolding variables arguments
-  placed w acc m e q p h = rw (← e .b-is) (positions-none ws (w .b) acc m q p)
+    pub assign-held : (ss₁ : List ℕ) → length ss₁ ≡ length ss → w .a < length ss₁
+    assign-held ss₁ q = let o = hole-held R n (h .home) ws ss used 0 l (h .fine) (h .left) w e (h .occ) in omega arith
 
-  pub assign-walks : (w : Record) (acc m : Map) → IsRecord ws l w → noPlace ≡ acc → Numbered positions ws (w .b) 0 acc m → Assigning R n ws ss used l r → ReadyT R n (w .a) m ws ss used 0 0 r
-  assign-walks w acc m e q p h =
-      let nine = h .occ in
-      let rule = h .fine .good l (h .left .below) in
-      let o = rule .occ nine .below in
-      let lt = h .left .below in
-      let fe = h .fine .few in
-      let rb = h .right .below in
-      let wi = h .fine .within in
-      let a = e .a-is in
-      record {
-        home = h .home;
-        is = h .right;
-        on = record { fine = h .fine; hole = omega arith; whole = p .whole; top = 16; low = rw (placed w acc m e q p h) (start-low ws l (rule .few (omega arith) (omega arith))); fits = omega arith };
-      }
+    module _ (m : Map) (p : Arguments ws (w .b) m) where
+      placed : mapOf true m ≡ toPositions 0 (variables ws l)
+      unfolding variables arguments
+      placed = rw (← e .b-is) (arguments-above ws (w .b) m p)
 
-  pub assign-held : (w : Record) (ss₁ : List ℕ) → IsRecord ws l w → Assigning R n ws ss used l r → length ss₁ ≡ length ss → w .a < length ss₁
-  assign-held w ss₁ e h q = let o = hole-held R n (h .home) ws ss used 0 l (h .fine) (h .left) w e (h .occ) in omega arith
+      pub assign-walks : ReadyT R n (w .a) m ws ss used 0 0 r
+      assign-walks =
+          let nine = h .occ in
+          let rule = h .fine .good l (h .left .below) in
+          let o = rule .occ nine .below in
+          let lt = h .left .below in
+          let fe = h .fine .few in
+          let rb = h .right .below in
+          let wi = h .fine .within in
+          let a = e .a-is in
+          record {
+            home = h .home;
+            is = h .right;
+            on = record { fine = h .fine; hole = omega arith; whole = p .whole; top = 16; low = rw placed (start-low ws l (rule .few (omega arith) (omega arith))); fits = omega arith };
+            known = h .known;
+          }
 
-  pub assigned : (w : Record) (acc m : Map) (ws₁ ss₁ : List ℕ) (x : Walked) (ss₂ : List ℕ) (y : Walked) → IsRecord ws l w → noPlace ≡ acc → Numbered positions ws (w .b) 0 acc m → Assigning R n ws ss used l r
-      → WalksT R n (w .a) m ws ss used 0 0 r ws₁ ss₁ x → Records (w .a) ss₁ x ss₂ y → Does² n (assign R l r) ws ss used ws₁ ss₂ y
-  unfolding assign
-  assigned w acc m ws₁ ss₁ x ss₂ y e z p h g q =
-      let fe = h .fine .few in
-      let rb = h .right .below in
-      let wi = h .fine .within in
-      let g₁ : walk enough R (fieldA ws l) (toPositions 0 (variables ws l)) 0 r (store ws ss used) ≡ shown ws₁ ss₁ x = rw (← e .a-is, ← placed w acc m e z p h) (g .run enough (omega arith)) in
-      record { run = rw g₁ (rw (← e .a-is) (q .run ws₁)); grown = rw (q .same) (g .grown) }
+      pub assigned : (ws₁ ss₁ : List ℕ) (x : Walked) (ss₂ : List ℕ) (y : Walked) → WalksT R n (w .a) m ws ss used 0 0 r ws₁ ss₁ x → Records (w .a) ss₁ x ss₂ y
+          → Does² n (assign R l r) ws ss used ws₁ ss₂ y
+      unfolding assign
+      assigned ws₁ ss₁ x ss₂ y g q =
+          let fe = h .fine .few in
+          let rb = h .right .below in
+          let wi = h .fine .within in
+          let g₁ : walk enough R (fieldA ws l) (toPositions 0 (variables ws l)) 0 r (store ws ss used) ≡ shown ws₁ ss₁ x = rw (← e .a-is, ← placed) (g .run enough (omega arith)) in
+          record { run = rw g₁ (rw (← e .a-is) (q .run ws₁)); grown = rw (q .same) (g .grown) }

@@ -1,30 +1,35 @@
 -- What the walk of a term asks, and that it still holds where the code goes on.
-use Prim.Native.Nat.{ℕ, suc, _+_, _-_, _*_, _<_, _≤_}
-use mathlib.Core.Path.{_≡_, sym, _∙_}
+use Prim.Native.Nat.{ℕ, suc, _+_, _*_, _<_, _≤_}
+use mathlib.Core.Path.{_≡_, refl, sym, _∙_}
 use mathlib.Core.List.{List}
 use native.Mathlib.Omega.{arith}
-use lib.ListN.{length, getD}
+use native.Mathlib.Decide.{ℕ-discrete}
+use lib.ListN.{length, getD, length-map}
+use lib.Dec.{eqb}
 use mir.Syntax.{w32}
 use mir.Val.{Fits}
+use borrow.Author.Tests.{ne-eqb}
 use Rattle.store.specs.declared.Walked.{Walked}
 use Rattle.table.specs.declared.Record.{Record}
 use Rattle.table.specs.Reading.{IsRecord}
 use Rattle.places.specs.declared.Map.{Map}
-use Rattle.rules.specs.Words.{NONE, tag, fieldA}
+use Rattle.rules.specs.Words.{NONE, tag, fieldA, fieldB, elements, arguments, variables}
 use Rattle.laws.specs.Lists.{size}
 use Rattle.invariants.specs.Floor.{Sub, Args, Fine}
 use Rattle.invariants.specs.Grow.{sub-less, args-less}
 use Rattle.invariants.specs.Places.{Low, followed}
-use Rattle.invariants.specs.Rise.{reach, raised, Rises, rises}
+use Rattle.invariants.specs.Rise.{reach, raised, raised-first, raised-on, Rises, rises}
 use Rattle.invariants.specs.Keep.{highest}
-use Rattle.store.specs.Said.{store}
-use Rattle.places.specs.Maps.{mapOf, Whole}
+use Rattle.promise.specs.WalkKnown.{WalkKnown, WalkAllKnown, walk-body, walk-constant, walk-variable, walk-arity, walk-solution}
+use Rattle.store.specs.Said.{store, Then, over, under}
+use Rattle.places.specs.Maps.{Whole}
 use Rattle.places.specs.Looking.{Looks}
 use Rattle.places.specs.Lists.{Counts, varsOf}
 use Rattle.places.specs.Follow.{Followed}
 use Rattle.narrow.specs.Narrowing.{Narrowing}
-use Rattle.rewrite.specs.Parts.{term-read, body-at, args-at, size-args, nine-at, counts-at, hole-held, narrows}
-use Rattle.walk.specs.Walks.{WalksT, WalksH, walk-hole, hole-hops}
+use Rattle.rewrite.specs.Levels.{Headed, of-constant}
+use Rattle.rewrite.specs.Parts.{term-read, body-at, args-at, size-args, few-at, counts-at, hole-held, narrows}
+use Rattle.walk.specs.Walks.{mapAt, WalksT, WalksL, WalksH, walk-lambda, walk-rigid, walk-hole, hole-hops}
 
 -- what every walk asks, at a measure k
 pub record On (R n u : ℕ) (m : Map) (home : ℕ → ℕ) (ws ss : List ℕ) (used F d k : ℕ) : Type 0 where
@@ -32,22 +37,28 @@ pub record On (R n u : ℕ) (m : Map) (home : ℕ → ℕ) (ws ss : List ℕ) (u
   pub hole : u < used
   pub whole : Whole m
   pub top : ℕ
-  pub low : Low (mapOf m) top
+  pub low : Low (mapAt F m) top
   pub fits : top + d + reach R F k ≤ highest
 
 pub record ReadyT (R n u : ℕ) (m : Map) (ws ss : List ℕ) (used F d r : ℕ) : Type 0 where
   pub home : ℕ → ℕ
   pub is : Sub ws home F used r
   pub on : On R n u m home ws ss used F d (suc r)
+  pub known : WalkKnown R (store ws ss used) r
 
 pub record ReadyL (R n u : ℕ) (m : Map) (ws ss : List ℕ) (used F d l : ℕ) : Type 0 where
   pub home : ℕ → ℕ
   pub is : Args ws home F used l
+  pub few : length (elements ws l) ≤ 16
   pub on : On R n u m home ws ss used F d (size l)
+  pub known : WalkAllKnown R (store ws ss used) l
 
 pub record ReadyH (R n u : ℕ) (m : Map) (ws ss : List ℕ) (used F d r : ℕ) : Type 0 where
   pub on : ReadyT R n u m ws ss used F d r
   pub occ : tag ws r ≡ 9
+
+pub on-part : {R n u : ℕ} {m : Map} {home : ℕ → ℕ} {ws ss : List ℕ} {used F d k : ℕ} (d₁ k₁ : ℕ) → On R n u m home ws ss used F d k → d₁ + k₁ ≤ d + k → On R n u m home ws ss used F d₁ k₁
+on-part d₁ k₁ o h = let f = o .fits in record { fine = o .fine; hole = o .hole; whole = o .whole; top = o .top; low = o .low; fits = omega arith }
 
 pub fall-hole : (R F r t : ℕ) → reach R F (suc r) ≡ t → reach R F r < t
 fall-hole R F r t z = omega arith
@@ -56,11 +67,17 @@ module _ {R n u : ℕ} {m : Map} {ws ss : List ℕ} {used F d r : ℕ} where
   pub to-read : ReadyT R n u m ws ss used F d r → 4 * r + 3 < length ws
   to-read h = term-read R n (h .home) ws ss used F r (h .on .fine) (h .is)
 
-  pub to-look : ReadyT R n u m ws ss used F d r → Looks m d
+  pub to-look : ReadyT R n u m ws ss used F d r → Looks (eqb F 0) m d
   to-look h = let f = h .on .fits in record { top = h .on .top; whole = h .on .whole; low = h .on .low; fits = omega arith }
 
   pub to-depth : ReadyT R n u m ws ss used F d r → Fits w32 (d + 1)
   to-depth h = let f = h .on .fits in record { fits = omega arith }
+
+  pub to-push : ReadyT R n u m ws ss used F d r → 4 * R ≤ length ws
+  to-push h = h .on .fine .room
+
+  pub to-since : ReadyT R n u m ws ss used F d r → n ≤ used
+  to-since h = h .on .fine .since
 
   pub to-then : (ws₁ : List ℕ) → ReadyT R n u m ws ss used F d r → length ws₁ ≡ length ws → 4 * R ≤ length ws₁
   to-then ws₁ h e = let c = h .on .fine .room in omega arith
@@ -77,46 +94,67 @@ module _ {R n u : ℕ} {m : Map} {ws ss : List ℕ} {used F d r : ℕ} where
       let b = body w e k h in
       let b₀ = b .below in
       let i = h .is .below in
-      let f = h .on .fits in
       record {
         home = h .home;
         is = sub-less ws (h .home) F F r used (w .a) b (omega arith) (omega arith);
-        on = record { fine = h .on .fine; hole = h .on .hole; whole = h .on .whole; top = h .on .top; low = h .on .low; fits = omega arith };
+        on = on-part (d + 1) (suc (w .a)) (h .on) (omega arith);
+        known = rw (e .a-is) (walk-body (h .known) (sym (e .tag-is) ∙ k));
       }
 
-  -- the arguments of a constant or a variable
-  args : (w : Record) → IsRecord ws r w → (w .tag ≡ 6 → ⊥) → (h : ReadyT R n u m ws ss used F d r) → size (w .b) ≤ r
-  args w e k h = size-args R n (h .home) ws ss used F r (h .on .fine) (h .is) w e k
+  pub walked-lambda : (w : Record) (ws₁ ss₁ : List ℕ) (x : Walked) (ws₂ : List ℕ) (y : Walked) → IsRecord ws r w → w .tag ≡ 6 → ReadyT R n u m ws ss used F d r
+      → WalksT R n u m ws ss used F (d + 1) (w .a) ws₁ ss₁ x → Then n (under R 6 0) ws₁ x ws₂ y → WalksT R n u m ws ss used F d r ws₂ ss₁ y
+  walked-lambda w ws₁ ss₁ x ws₂ y e t h p q = walk-lambda R n u m ws ss used F d r w e ws₁ ss₁ x ws₂ y t (fall-body w _ refl e t h) p q
 
-  pub fall-args : (w : Record) (t : ℕ) → reach R F (suc r) ≡ t → IsRecord ws r w → (w .tag ≡ 6 → ⊥) → ReadyT R n u m ws ss used F d r → reach R F (size (w .b)) < t
-  fall-args w t z e k h = let s = args w e k h in omega arith
+  -- an occurrence
+  pub to-hole : (w : Record) → IsRecord ws r w → w .tag ≡ 9 → ReadyT R n u m ws ss used F d r → ReadyH R n u m ws ss used F d r
+  to-hole w e t h = record { on = h; occ = sym (e .tag-is) ∙ t }
 
-  pub to-args : (w : Record) → IsRecord ws r w → (w .tag ≡ 6 → ⊥) → ReadyT R n u m ws ss used F d r → ReadyL R n u m ws ss used F d (w .b)
-  to-args w e k h =
-      let s = args w e k h in
-      let f = h .on .fits in
-      let i = h .is .below in
-      record {
-        home = h .home;
-        is = args-less ws (h .home) F F r used (w .b) (args-at R n (h .home) ws ss used F r (h .on .fine) (h .is) w e k) (omega arith) (omega arith);
-        on = record { fine = h .on .fine; hole = h .on .hole; whole = h .on .whole; top = h .on .top; low = h .on .low; fits = omega arith };
-      }
+  pub walked-hole : (w : Record) (ws₁ ss₁ : List ℕ) (x : Walked) → IsRecord ws r w → w .tag ≡ 9 → WalksH R n u m ws ss used F d r ws₁ ss₁ x → WalksT R n u m ws ss used F d r ws₁ ss₁ x
+  walked-hole w ws₁ ss₁ x e t p = walk-hole R n u m ws ss used F d r ws₁ ss₁ x (sym (e .tag-is) ∙ t) p
 
-  module _ (w : Record) (e : IsRecord ws r w) (a : w .tag ≡ 6 → ⊥) (b : w .tag ≡ 7 → ⊥) (c : w .tag ≡ 8 → ⊥) (h : ReadyT R n u m ws ss used F d r) where
-    nine : tag ws r ≡ 9
-    nine = nine-at R n (h .home) ws ss used F r (h .on .fine) (h .is) w e a b c
+  -- a rigid head
+  module _ (w : Record) (e : IsRecord ws r w) (a : w .tag ≡ 6 → ⊥) (b : w .tag ≡ 9 → ⊥) (h : ReadyT R n u m ws ss used F d r) where
+    pub head-kept : (x : ℕ) → (w .tag ≡ 8 → ⊥) → x ≡ w .a → Headed (mapAt F m) d w x
+    head-kept x c q = let lo = h .is .term .low in let hi = h .is .term .high in let z = e .tag-is in of-constant (omega arith) (sym q)
 
-    pub to-hole : ReadyH R n u m ws ss used F d r
-    to-hole = record { on = h; occ = nine }
+    args : size (w .b) ≤ r
+    args = size-args R n (h .home) ws ss used F r (h .on .fine) (h .is) w e a
 
-    pub walks-hole : (ws₁ ss₁ : List ℕ) (x : Walked) → WalksH R n u m ws ss used F d r ws₁ ss₁ x → WalksT R n u m ws ss used F d r ws₁ ss₁ x
-    walks-hole ws₁ ss₁ x p = walk-hole R n u m ws ss used F d r ws₁ ss₁ x nine p
+    pub fall-args : (t : ℕ) → reach R F (suc r) ≡ t → reach R F (size (w .b)) < t
+    fall-args t z = let s = args in omega arith
+
+    knows : WalkAllKnown R (store ws ss used) (w .b)
+    knows = rw (e .b-is) (go (ℕ-discrete (tag ws r) 7))
+      where
+        go : Dec (tag ws r ≡ 7) → WalkAllKnown R (store ws ss used) (fieldB ws r)
+        go (yes t) = walk-constant (h .known) t
+        go (no t) =
+            let lo = h .is .term .low in
+            let hi = h .is .term .high in
+            let z = e .tag-is in
+            walk-variable (h .known) (omega arith)
+
+    pub to-args : ReadyL R n u m ws ss used F d (w .b)
+    to-args =
+        let s = args in
+        let i = h .is .below in
+        record {
+          home = h .home;
+          is = args-less ws (h .home) F F r used (w .b) (args-at R n (h .home) ws ss used F r (h .on .fine) (h .is) w e a) (omega arith) (omega arith);
+          few = few-at R n (h .home) ws ss used F r (h .on .fine) (h .is) w e a;
+          on = on-part d (size (w .b)) (h .on) (omega arith);
+          known = knows;
+        }
+
+    pub walked-rigid : (v : ℕ) (ws₁ ss₁ : List ℕ) (x : Walked) (ws₂ : List ℕ) (y : Walked) → Headed (mapAt F m) d w v
+        → WalksL R n u m ws ss used F d (w .b) ws₁ ss₁ x → Then n (over R (w .tag) v) ws₁ x ws₂ y → WalksT R n u m ws ss used F d r ws₂ ss₁ y
+    walked-rigid v ws₁ ss₁ x ws₂ y t p q = walk-rigid R n u m ws ss used F d r w e v ws₁ ss₁ x ws₂ y t (fall-args _ refl) p q
 
   -- an occurrence
   pub to-read-h : ReadyH R n u m ws ss used F d r → 4 * r + 3 < length ws
   to-read-h h = to-read (h .on)
 
-  pub to-looks-h : ReadyH R n u m ws ss used F d r → Looks m d
+  pub to-looks-h : ReadyH R n u m ws ss used F d r → Looks (eqb F 0) m d
   to-looks-h h = to-look (h .on)
 
   pub to-counts : (w : Record) → IsRecord ws r w → ReadyH R n u m ws ss used F d r → Counts ws (w .b)
@@ -125,8 +163,12 @@ module _ {R n u : ℕ} {m : Map} {ws ss : List ℕ} {used F d r : ℕ} where
   pub to-solution : (w : Record) → IsRecord ws r w → ReadyH R n u m ws ss used F d r → w .a < length ss
   to-solution w e h = hole-held R n (h .on .home) ws ss used F r (h .on .on .fine) (h .on .is) w e (h .occ)
 
-  pub to-keep : (w : Record) (next : Map) → IsRecord ws r w → ReadyH R n u m ws ss used F d r → Followed ws m d (w .b) next → Narrowing ws ss n used R (w .a) next
-  to-keep w next e h g = narrows R n (h .on .home) ws ss used F r (h .on .on .fine) (h .on .is) w e (h .occ) next (g .whole)
+  pub to-keep : (w : Record) (next : Map) → IsRecord ws r w → ReadyH R n u m ws ss used F d r → Followed ws (eqb F 0) m d (w .b) next → Narrowing ws ss n used R (w .a) next
+  unfolding variables arguments
+  to-keep w next e h g =
+      let k : length (elements ws (fieldB ws r)) ≡ next .len = rw (← e .b-is) (sym (g .len)) in
+      let v : length (variables ws r) ≡ next .len = simp length-map k in
+      narrows R n (h .on .home) ws ss used F r (h .on .on .fine) (h .on .is) w e (h .occ) next (g .whole) (sym (walk-arity (h .on .known) (h .occ)) ∙ v)
 
   pub to-raise : ReadyH R n u m ws ss used F d r → r < 4096
   to-raise h = let lt = h .on .is .below in let wi = h .on .on .fine .within in let f = h .on .on .fine .few in omega arith
@@ -140,25 +182,34 @@ module _ {R n u : ℕ} {m : Map} {ws ss : List ℕ} {used F d r : ℕ} where
   pub fall-hop : (w : Record) (t G k : ℕ) → reach R F r ≡ k → IsRecord ws r w → getD ss (w .a) NONE ≡ t → (t ≡ NONE → ⊥) → raised n F r ≡ G → ReadyH R n u m ws ss used F d r → reach R G (suc t) < k
   fall-hop w t G k y e st z g h = let a = risen w t G e st z g h .falls in omega arith
 
-  pub to-hop : (w : Record) (next : Map) (t G : ℕ) → IsRecord ws r w → getD ss (w .a) NONE ≡ t → (t ≡ NONE → ⊥) → raised n F r ≡ G → Followed ws m d (w .b) next
-      → ReadyH R n u m ws ss used F d r → ReadyT R n u next ws ss used G 0 t
-  to-hop w next t G e st z g fo h =
-      let fh = risen w t G e st z g h .falls in
-      let f = h .on .on .fits in
-      let tp = h .on .on .top in
-      record {
-        home = h .on .home;
-        is = risen w t G e st z g h .sub;
-        on = record {
-          fine = h .on .on .fine;
-          hole = h .on .on .hole;
-          whole = fo .whole;
-          top = tp + d;
-          low = rw (fo .run) (followed (mapOf m) d tp 0 (varsOf ws (w .b)) (h .on .on .low) .low);
-          fits = omega arith;
-        };
-      }
+  -- the floor there is no 0
+  above : (G : ℕ) → raised n F r ≡ G → ReadyH R n u m ws ss used F d r → G ≡ 0 → ⊥
+  above G g h q = go (ℕ-discrete F 0)
+    where
+      go : Dec (F ≡ 0) → ⊥
+      go (yes z) = let one = h .on .on .fine .some in let e = raised-first n F r z in absurd (omega arith)
+      go (no z) = let e = raised-on n F r z in absurd (omega arith)
 
-  pub hops : (w : Record) (next : Map) (t G : ℕ) (ws₁ ss₁ : List ℕ) (x : Walked) → IsRecord ws r w → (w .a ≡ u → ⊥) → getD ss (w .a) NONE ≡ t → (t ≡ NONE → ⊥) → raised n F r ≡ G
-      → Followed ws m d (w .b) next → ReadyH R n u m ws ss used F d r → WalksT R n u next ws ss used G 0 t ws₁ ss₁ x → WalksH R n u m ws ss used F d r ws₁ ss₁ x
-  hops w next t G ws₁ ss₁ x e ne st z g fo h p = hole-hops R n u m ws ss used F d r w next t G ws₁ ss₁ x e ne st z (fo .run) (risen w t G e st z g h .falls) p
+  module _ (w : Record) (next : Map) (t G : ℕ) (e : IsRecord ws r w) (st : getD ss (w .a) NONE ≡ t) (z : t ≡ NONE → ⊥) (g : raised n F r ≡ G) (fo : Followed ws (eqb F 0) m d (w .b) next)
+      (h : ReadyH R n u m ws ss used F d r) where
+    pub to-hop : ReadyT R n u next ws ss used G 0 t
+    to-hop =
+        let fh = risen w t G e st z g h .falls in
+        let f = h .on .on .fits in
+        let tp = h .on .on .top in
+        record {
+          home = h .on .home;
+          is = risen w t G e st z g h .sub;
+          on = record {
+            fine = h .on .on .fine;
+            hole = h .on .on .hole;
+            whole = fo .whole;
+            top = tp + d;
+            low = rw (ne-eqb G 0 (above G g h), fo .run) (followed (mapAt F m) d tp 0 (varsOf ws (w .b)) (h .on .on .low) .low);
+            fits = omega arith;
+          };
+          known = walk-solution (h .on .known) (h .occ) t (rw (← e .a-is) st) z;
+        }
+
+    pub hops : (ws₁ ss₁ : List ℕ) (x : Walked) → (w .a ≡ u → ⊥) → WalksT R n u next ws ss used G 0 t ws₁ ss₁ x → WalksH R n u m ws ss used F d r ws₁ ss₁ x
+    hops ws₁ ss₁ x ne p = hole-hops R n u m ws ss used F d r w e ne next fo t st G ws₁ ss₁ x z (above G g h) (risen w t G e st z g h .falls) p

@@ -1,19 +1,18 @@
 // The walk of the other side for the hole that is solved.
 use narrow::keep_placed;
+use narrow::push_cells;
 use places::Map;
-use places::count;
-use places::empty;
+use places::arguments;
 use places::follow;
 use places::place_of;
-use places::to_positions;
 use rules::Failure;
 use rules::Found;
 use store::Walked;
+use store::push;
 use store::solution_of;
 use store::then_over;
 use store::then_under;
-use table::CA;
-use table::CE;
+use table::HA;
 use table::Hole;
 use table::LA;
 use table::NONE;
@@ -29,6 +28,14 @@ ghost use Rattle.walk.specs.Walks.{WalksT, WalksL, WalksH};
 ghost use Rattle.invariants.specs.Rise.{raised};
 ghost use Rattle.walk.specs.Ready.{ReadyT, ReadyL, ReadyH};
 ghost use Rattle.walk.specs.Assign.{Assigning, Records};
+
+// What stays the same in a walk: the records from n on are written, up to `room`, for this hole. The floor is 0 on the side of a pair.
+struct Task {
+    n: u32,
+    room: u32,
+    hole: Hole,
+    floor: u32,
+}
 
 // The floor below a solved hole that is met at a record: n on the side of a pair, else past the record. It is there for the proof
 // that the walk ends: no record below the floor is read, and it rises at each solved hole.
@@ -46,152 +53,96 @@ fn raise(n: u32, floor: u32, at: u32) -> u32
 fn walk_term(
     table: &mut [u32],
     solutions: &mut [u32],
-    n: u32,
+    task: Task,
     used: u32,
-    room: u32,
-    hole: Hole,
     map: Map,
-    floor: u32,
     depth: u32,
     at: u32,
 ) -> Walked
-    requires { ⌜ ReadyT room n (hole .0) map (now table) (now solutions) used floor depth at ⌝ }
-    ensures { λ r. ⌜ WalksT room n (hole .0) map (now (table .entry)) (now (solutions .entry)) used floor depth at (now (table .exit)) (now (solutions .exit)) r ⌝ }
+    requires { ⌜ ReadyT (task .room) (task .n) (task .hole .0) map (now table) (now solutions) used (task .floor) depth at ⌝ }
+    ensures { λ r. ⌜ WalksT (task .room) (task .n) (task .hole .0) map (now (table .entry)) (now (solutions .entry)) used (task .floor) depth at (now (table .exit)) (now (solutions .exit)) r ⌝ }
 {
     let rec = read(table, at);
     if rec.tag == LA {
-        let body = walk_term(
-            table,
-            solutions,
-            n,
-            used,
-            room,
-            hole,
-            map,
-            floor,
-            depth + 1,
-            rec.a,
-        );
-        return then_under(table, n, room, LA, 0, body);
+        let body = walk_term(table, solutions, task, used, map, depth + 1, rec.a);
+        return then_under(table, task.n, task.room, LA, 0, body);
     }
-    if rec.tag == CA {
-        let args = walk_args(
-            table,
-            solutions,
-            n,
-            used,
-            room,
-            hole,
-            map,
-            floor,
-            depth,
-            rec.b,
-        );
-        return then_over(table, n, room, CA, rec.a, args);
+    if rec.tag == HA {
+        return walk_hole(table, solutions, task, used, map, depth, at);
     }
+    let mut head = rec.a;
     if rec.tag == VA {
-        let Found::At(v) = place_of(map, depth, Variable(rec.a)) else {
+        let Found::At(v) = place_of(map, task.floor == 0, depth, Variable(rec.a)) else {
             return Walked::Failed(Failure::Escape);
         };
-        let args = walk_args(
-            table,
-            solutions,
-            n,
-            used,
-            room,
-            hole,
-            map,
-            floor,
-            depth,
-            rec.b,
-        );
-        return then_over(table, n, room, VA, v, args);
+        head = v;
     }
-    walk_hole(table, solutions, n, used, room, hole, map, floor, depth, at)
+    if rec.b == NONE {
+        return push(table, task.n, used, task.room, rec.tag, head, NONE);
+    }
+    let args = walk_args(table, solutions, task, used, map, depth, rec.b);
+    then_over(table, task.n, task.room, rec.tag, head, args)
 }
 
 // The walk of an argument list: arguments in order, then their cells from last to first.
 fn walk_args(
     table: &mut [u32],
     solutions: &mut [u32],
-    n: u32,
+    task: Task,
     used: u32,
-    room: u32,
-    hole: Hole,
     map: Map,
-    floor: u32,
     depth: u32,
     list: u32,
 ) -> Walked
-    requires { ⌜ ReadyL room n (hole .0) map (now table) (now solutions) used floor depth list ⌝ }
-    ensures { λ r. ⌜ WalksL room n (hole .0) map (now (table .entry)) (now (solutions .entry)) used floor depth list (now (table .exit)) (now (solutions .exit)) r ⌝ }
+    requires { ⌜ ReadyL (task .room) (task .n) (task .hole .0) map (now table) (now solutions) used (task .floor) depth list ⌝ }
+    ensures { λ r. ⌜ WalksL (task .room) (task .n) (task .hole .0) map (now (table .entry)) (now (solutions .entry)) used (task .floor) depth list (now (table .exit)) (now (solutions .exit)) r ⌝ }
 {
-    if list == NONE {
-        return Walked::Root { root: NONE, used };
-    }
-    let cell = read(table, list);
-    match walk_term(
-        table,
-        solutions,
-        n,
-        used,
-        room,
-        hole,
-        map,
-        floor,
-        depth,
-        cell.a,
-    ) {
-        Walked::Failed(e) => Walked::Failed(e),
-        Walked::Root {
-            root: head,
-            used: then,
-        } => {
-            let rest = walk_args(
-                table,
-                solutions,
-                n,
-                then,
-                room,
-                hole,
-                map,
-                floor,
-                depth,
-                cell.b,
-            );
-            then_over(table, n, room, CE, head, rest)
+    let mut noted = [0u32; 16];
+    let mut k = 0;
+    let mut taken = used;
+    let mut left = list;
+    while left != NONE {
+        let cell = read(table, left);
+        match walk_term(table, solutions, task, taken, map, depth, cell.a) {
+            Walked::Failed(e) => {
+                return Walked::Failed(e);
+            }
+            Walked::Root { root, used: then } => {
+                noted[k] = root;
+                k += 1;
+                taken = then;
+            }
         }
+        left = cell.b;
     }
+    push_cells(table, task.n, taken, task.room, &noted, k)
 }
 
 // The walk at an occurrence: of the hole itself, of a solved hole, of another unsolved one.
 fn walk_hole(
     table: &mut [u32],
     solutions: &mut [u32],
-    n: u32,
+    task: Task,
     used: u32,
-    room: u32,
-    hole: Hole,
     map: Map,
-    floor: u32,
     depth: u32,
     at: u32,
 ) -> Walked
-    requires { ⌜ ReadyH room n (hole .0) map (now table) (now solutions) used floor depth at ⌝ }
-    ensures { λ r. ⌜ WalksH room n (hole .0) map (now (table .entry)) (now (solutions .entry)) used floor depth at (now (table .exit)) (now (solutions .exit)) r ⌝ }
+    requires { ⌜ ReadyH (task .room) (task .n) (task .hole .0) map (now table) (now solutions) used (task .floor) depth at ⌝ }
+    ensures { λ r. ⌜ WalksH (task .room) (task .n) (task .hole .0) map (now (table .entry)) (now (solutions .entry)) used (task .floor) depth at (now (table .exit)) (now (solutions .exit)) r ⌝ }
 {
     let occ = read(table, at);
-    if occ.a == hole.0 {
+    if occ.a == task.hole.0 {
         return Walked::Failed(Failure::Occurs);
     }
-    let next = follow(table, map, depth, occ.b);
+    let next = follow(table, map, task.floor == 0, depth, occ.b);
     let t = solution_of(solutions, Hole(occ.a));
     if t == NONE {
-        let arity = count(table, occ.b);
-        return keep_placed(table, solutions, n, used, room, Hole(occ.a), arity, next);
+        return keep_placed(table, solutions, task.n, used, task.room, Hole(occ.a), next);
     }
-    let above = raise(n, floor, at);
-    walk_term(table, solutions, n, used, room, hole, next, above, 0, t)
+    let mut below = task;
+    below.floor = raise(task.n, task.floor, at);
+    walk_term(table, solutions, below, used, next, 0, t)
 }
 
 // What was written becomes the hole's solution, or the failure.
@@ -223,18 +174,13 @@ pub fn assign(
     ensures { λ r. ⌜ Does² n (assignOf room left right) (now (table .entry)) (now (solutions .entry)) used (now (table .exit)) (now (solutions .exit)) r ⌝ }
 {
     let occ = read(table, left);
-    let map = to_positions(table, occ.b, 0, empty());
-    let walked = walk_term(
-        table,
-        solutions,
+    let map = arguments(table, occ.b);
+    let task = Task {
         n,
-        used,
         room,
-        Hole(occ.a),
-        map,
-        0,
-        0,
-        right,
-    );
+        hole: Hole(occ.a),
+        floor: 0,
+    };
+    let walked = walk_term(table, solutions, task, used, map, 0, right);
     then_record(solutions, Hole(occ.a), walked)
 }

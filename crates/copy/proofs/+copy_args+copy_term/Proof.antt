@@ -1,9 +1,14 @@
 -- `copy_args` and `copy_term` of `copy`, which call each other, meet their contracts.
 use borrow.Author.Needs.{needs}
 use Prim.Native.Nat.{suc}
+use mathlib.Core.Bool.{false}
+use mathlib.Core.Logic.{⊎-elim}
+use Rattle.places.specs.Maps.{mapOf}
+use Rattle.rewrite.specs.Levels.{Headed, head-named}
 use Rattle.laws.specs.Lists.{size}
-use Rattle.copy.specs.Copies.{copy-escape}
-use Rattle.copy.specs.Ready.{to-read, to-look, to-depth, to-then, fall-body, to-body, fall-args, to-args, to-counts, to-write, copied-hole, copied-lambda, copied-constant, copied-variable, to-read-cell, to-then-cell, list-end, fall-head, fall-rest, to-head, list-stops, to-rest, list-goes}
+use Rattle.places.specs.Filling.{fits-index, fits-next}
+use Rattle.copy.specs.Ready.{to-read, to-look, to-depth, to-push, to-since, to-then, fall-body, to-body, copied-lambda, to-counts, to-write, copied-hole, to-name, head-kept, copied-leaf, fall-args, to-args, copied-rigid}
+use Rattle.copy.specs.Each.{Turn, turn-first, turn-kept, turn-array, turn-cells, turn-ends, turn-read, turn-falls, turn-less, turn-head, room-left, turn-stops, turn-next}
 use Prim.Native.Nat.{ℕ, _<_}
 use borrow.Fn.Kinds.{In}
 use borrow.Fn.PlainCycle.{Measures, is, falls, and}
@@ -13,9 +18,11 @@ use Rattle.copy.proofs.+copy_args+copy_term.Lts-copy_args as copy-args-
 use Rattle.copy.proofs.copy_term.Reads as copy-term
 use Rattle.copy.proofs.copy_term.Kinds as copy-term-kinds
 use Rattle.copy.proofs.+copy_args+copy_term.Lts-copy_term as copy-term-lts
+use Rattle.rewrite.proofs.renamed.Reads as renamed-reads
+use Rattle.narrow.proofs.push_cells.Reads as push-cells-reads
 use Rattle.narrow.proofs.push_occurrence.Reads as push-occurrence-reads
 use Rattle.places.proofs.follow.Reads as follow-reads
-use Rattle.places.proofs.place_of.Reads as place-of-reads
+use Rattle.store.proofs.push.Reads as push-reads
 use Rattle.store.proofs.then_over.Reads as then-over-reads
 use Rattle.store.proofs.then_under.Reads as then-under-reads
 use Rattle.table.proofs.read.Reads as read-reads
@@ -42,30 +49,65 @@ abbrev copy-term-below : ℕ → In 1 copy-term-kinds.ps
 copy-term-below t =
     and 1 copy-term-kinds.ps (falls 1 copy-term-kinds.ps _<_ μ-copy-term t) copy-term.Pre
 
+abbrev copy-args-Inv-loop : copy-args-lts.InvT-loop
+copy-args-Inv-loop table₀ n used room map depth list noted₀ k₀ taken₀ left₀ table noted k taken left = Turn room n map table₀ used depth list table noted k taken left
+
+abbrev copy-args-μ-loop : copy-args-lts.MeasureT-loop
+copy-args-μ-loop table₀ n used room map depth list noted₀ k₀ taken₀ left₀ table noted k taken left = size left
+
+-- the head's number, where the ways of a constant and a variable meet
+headed : (t : ℕ) (c : copy-term-lts.Joined3 (
+  read-reads.Asked,
+  read-reads.Learnt,
+  copy-term-below t,
+  copy-term.Post,
+  then-under-reads.Asked,
+  then-under-reads.Learnt,
+  follow-reads.Asked,
+  follow-reads.Learnt,
+  push-occurrence-reads.Asked,
+  push-occurrence-reads.Learnt,
+  renamed-reads.Asked,
+  renamed-reads.Learnt,
+  push-reads.Asked,
+  push-reads.Learnt,
+  copy-args-below t,
+  copy-args.Post,
+  then-over-reads.Asked,
+  then-over-reads.Learnt,
+) (copy-term-at t) copy-term.Post)
+    → Headed (mapOf false (c .before .before .before .before .before .before .before .before .before .args .map)) (c .before .before .before .before .before .before .before .before .before .args .depth) (c .before .before .before .before .before .before .read .result) (c .if3 .head)
+headed t c = ⊎-elim (λ w. search head-named) (λ w. search head-kept) (c .if3 .came)
+
 pub +copy-args+copy-term-spec : {M : Type 1} → statement M
 +copy-args+copy-term-spec = close μ-copy-args μ-copy-term (λ t. copy-args-lts.spec (
   read-reads.Asked,
   read-reads.Learnt,
   copy-term-below t,
   copy-term.Post,
-  copy-args-below t,
-  copy-args.Post,
-  then-over-reads.Asked,
-  then-over-reads.Learnt,
+  push-cells-reads.Asked,
+  push-cells-reads.Learnt,
 )
     (copy-args-at t)
     copy-args.Post
-    (λ c. search list-end)
-    (λ c κs. search to-read-cell)
-    (λ c κs. (search fall-head, search to-head))
+    copy-args-Inv-loop
+    copy-args-μ-loop
+    (λ c. search turn-first)
+    (λ c κs. search turn-read)
+    (λ c κs. (search turn-falls, search turn-head))
     (λ c. search needs)
+    (λ c. search turn-kept)
+    (λ c. search turn-stops)
     (λ c. search needs)
-    (λ c κs. (search fall-rest, to-rest _ (c .before .before .before .before .before .before .before .before .before .before .if1 .left) (c .before .before .before .before .before .before .before .before .read .ensures) (c .before .before .before .before .before .before .before .before .before .before .before .before .pre .1) _ _ (c .before .before .before .before .before .before .copy-term .ensures) _ _ (c .before .before .head .given .1)))
-    (λ c κs. (search to-then-cell, search needs))
-    (λ c. search needs)
-    (λ c. search list-stops)
-    (λ c. search needs)
-    (λ c. search list-goes))
+    (λ c. search (fits-index, room-left))
+    (λ c. search room-left)
+    (λ c. search (fits-next, room-left))
+    (λ c. search turn-less)
+    (λ c. search turn-next)
+    (λ c. search turn-array)
+    (λ c κs. search turn-cells)
+    (λ c. search turn-kept)
+    (λ c. search turn-ends))
     λ t. copy-term-lts.spec (
       read-reads.Asked,
       read-reads.Learnt,
@@ -73,16 +115,18 @@ pub +copy-args+copy-term-spec : {M : Type 1} → statement M
       copy-term.Post,
       then-under-reads.Asked,
       then-under-reads.Learnt,
-      copy-args-below t,
-      copy-args.Post,
-      then-over-reads.Asked,
-      then-over-reads.Learnt,
-      place-of-reads.Asked,
-      place-of-reads.Learnt,
       follow-reads.Asked,
       follow-reads.Learnt,
       push-occurrence-reads.Asked,
       push-occurrence-reads.Learnt,
+      renamed-reads.Asked,
+      renamed-reads.Learnt,
+      push-reads.Asked,
+      push-reads.Learnt,
+      copy-args-below t,
+      copy-args.Post,
+      then-over-reads.Asked,
+      then-over-reads.Learnt,
     )
     (copy-term-at t)
     copy-term.Post
@@ -92,20 +136,15 @@ pub +copy-args+copy-term-spec : {M : Type 1} → statement M
     (λ c κs. (search to-then, search needs))
     (λ c. search needs)
     (λ c. search copied-lambda)
-    (λ c κs. (search fall-args, search to-args))
-    (λ c κs. (search to-then, search needs))
-    (λ c. search needs)
-    (λ c. search copied-constant)
-    (λ c κs. search to-look)
-    (λ c. search needs)
-    (λ c. search needs)
-    (λ c. search needs)
-    (λ c. search copy-escape)
-    (λ c κs. (search fall-args, search to-args))
-    (λ c κs. (search to-then, search needs))
-    (λ c. search needs)
-    (λ c. search copied-variable)
     (λ c κs. (search to-counts, search to-look))
     (λ c κs. search to-write)
     (λ c. search needs)
     (λ c. search copied-hole)
+    (λ c κs. search to-name)
+    (λ c κs. (search to-push, search to-since))
+    (λ c. search needs)
+    (λ c. let q = headed t (c .before .before .before .before .before .before) in search copied-leaf)
+    (λ c κs. (search fall-args, search to-args))
+    (λ c κs. (search to-then, search needs))
+    (λ c. search needs)
+    (λ c. let q = headed t (c .before .before .before .before .before .before .before .before .before .before) in search copied-rigid)

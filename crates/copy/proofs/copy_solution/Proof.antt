@@ -1,22 +1,20 @@
 -- `copy::copy_solution` meets its contract.
-use Rattle.copy.specs.Solution.{copying-numbers, copying-ready, solution-copied}
+use Rattle.copy.specs.Solution.{copying-read, copying-counts, copying-ready, solution-copied}
 use borrow.Author.Needs.{needs}
 use Rattle.copy.proofs.copy_solution.Statement.{statement}
 use Rattle.copy.proofs.copy_solution.Tie as tie
 use Rattle.copy.proofs.copy_solution.Reads as reads
 use Rattle.copy.proofs.copy_solution.Lts as lts
 use Rattle.copy.proofs.copy_term.Reads as copy-term-reads
-use Rattle.places.proofs.empty.Reads as empty-reads
-use Rattle.places.proofs.to_variables.Reads as to-variables-reads
+use Rattle.places.proofs.arguments.Reads as arguments-reads
 use Rattle.table.proofs.read.Reads as read-reads
 
 pub copy-solution-spec : {M : Type 1} → statement M
 copy-solution-spec =
     tie.close
     (tie.spec
-    (λ c κs. search needs)
-    (λ c κs. search needs)
-    (λ c κs. search copying-numbers)
+    (λ c κs. search copying-read)
+    (λ c κs. search copying-counts)
     (λ c κs. search copying-ready)
     (λ c. search needs)
     (λ c. search solution-copied))

@@ -1,10 +1,16 @@
 -- `show_args`, `show_hole` and `show_term` of `show`, which call each other, meet their contracts.
 use borrow.Author.Needs.{needs}
 use Prim.Native.Nat.{suc}
+use mathlib.Core.Bool.{false}
+use mathlib.Core.Logic.{⊎-elim}
 use Rattle.laws.specs.Lists.{size}
+use Rattle.places.specs.Filling.{fits-index, fits-next}
 use Rattle.invariants.specs.Rise.{reach}
-use Rattle.show.specs.Shows.{since-none, show-escape, hole-written, args-end}
-use Rattle.show.specs.Ready.{to-read, to-look, to-depth, to-then, to-above, fall-body, to-body, fall-args, to-args, to-counts, fall-hole, to-hole, shows-lambda, shows-constant, shows-variable, shows-occurrence, to-solution, to-write, fall-solution, to-term, shows-solution, to-read-cell, to-then-cell, fall-head, fall-rest, to-head, to-rest, list-stops, list-goes}
+use Rattle.places.specs.Maps.{mapOf}
+use Rattle.rewrite.specs.Levels.{Headed, head-named}
+use Rattle.show.specs.Shows.{since-none, show-leaf, hole-written}
+use Rattle.show.specs.Ready.{to-read, to-look, to-depth, to-above, to-push, to-then, fall-body, to-body, shows-lambda, to-counts, fall-hole, to-hole, shows-occurrence, to-name, head-kept, fall-args, to-args, shows-rigid, to-solution, to-write, fall-solution, to-term, shows-solution}
+use Rattle.show.specs.Each.{Turn, turn-first, turn-kept, turn-array, turn-cells, turn-ends, turn-read, turn-falls, turn-less, turn-head, room-left, turn-stops, turn-next}
 use Prim.Native.Nat.{ℕ, _<_}
 use borrow.Fn.Kinds.{In}
 use borrow.Fn.PlainCycle.{Measures, is, falls, and}
@@ -17,9 +23,11 @@ use Rattle.show.proofs.+show_args+show_hole+show_term.Lts-show_hole as 
 use Rattle.show.proofs.show_term.Reads as show-term
 use Rattle.show.proofs.show_term.Kinds as show-term-kinds
 use Rattle.show.proofs.+show_args+show_hole+show_term.Lts-show_term as show-term-lts
+use Rattle.narrow.proofs.push_cells.Reads as push-cells-reads
 use Rattle.narrow.proofs.push_occurrence.Reads as push-occurrence-reads
 use Rattle.places.proofs.follow.Reads as follow-reads
-use Rattle.places.proofs.place_of.Reads as place-of-reads
+use Rattle.rewrite.proofs.renamed.Reads as renamed-reads
+use Rattle.store.proofs.push.Reads as push-reads
 use Rattle.store.proofs.solution_of.Reads as solution-of-reads
 use Rattle.store.proofs.then_over.Reads as then-over-reads
 use Rattle.store.proofs.then_under.Reads as then-under-reads
@@ -28,13 +36,13 @@ use Rattle.show.proofs.+show_args+show_hole+show_term.{statement}
 use Rattle.show.proofs.+show_args+show_hole+show_term.Tie.{close}
 
 abbrev μ-show-args : Measures 3 show-args-kinds.ps ℕ
-μ-show-args κs a = reach 4096 (a .1 .1 .1 .1 .1 .1 .0) (size (a .1 .1 .1 .1 .1 .1 .1 .1 .0))
+μ-show-args κs a = reach 4096 (a .1 .1 .1 .0 .floor) (size (a .1 .1 .1 .1 .1 .1 .1 .0))
 
 abbrev μ-show-hole : Measures 3 show-hole-kinds.ps ℕ
-μ-show-hole κs a = reach 4096 (a .1 .1 .1 .1 .1 .1 .1 .0) 4097
+μ-show-hole κs a = reach 4096 (a .1 .1 .1 .0 .floor) 4097
 
 abbrev μ-show-term : Measures 3 show-term-kinds.ps ℕ
-μ-show-term κs a = reach 4096 (a .1 .1 .1 .1 .1 .1 .0) (suc (a .1 .1 .1 .1 .1 .1 .1 .1 .0))
+μ-show-term κs a = reach 4096 (a .1 .1 .1 .0 .floor) (suc (a .1 .1 .1 .1 .1 .1 .1 .0))
 
 abbrev show-args-at : ℕ → In 3 show-args-kinds.ps
 show-args-at t = and 3 show-args-kinds.ps (is 3 show-args-kinds.ps μ-show-args t) show-args.Pre
@@ -57,6 +65,17 @@ abbrev show-term-below : ℕ → In 3 show-term-kinds.ps
 show-term-below t =
     and 3 show-term-kinds.ps (falls 3 show-term-kinds.ps _<_ μ-show-term t) show-term.Pre
 
+abbrev show-args-Inv-loop : show-args-lts.InvT-loop
+show-args-Inv-loop table solutions output₀ task used map depth list noted₀ k₀ taken₀ left₀ output noted k taken left = Turn (task .room) map table solutions output₀ used (task .floor) depth list output noted k taken left
+
+abbrev show-args-μ-loop : show-args-lts.MeasureT-loop
+show-args-μ-loop table solutions output₀ task used map depth list noted₀ k₀ taken₀ left₀ output noted k taken left = size left
+
+-- the head's number, where the ways of a constant and a variable meet
+headed : (t : ℕ) (c : show-term-lts.Joined3 (read-reads.Asked, read-reads.Learnt, show-term-below t, show-term.Post, then-under-reads.Asked, then-under-reads.Learnt, follow-reads.Asked, follow-reads.Learnt, show-hole-below t, show-hole.Post, renamed-reads.Asked, renamed-reads.Learnt, push-reads.Asked, push-reads.Learnt, show-args-below t, show-args.Post, then-over-reads.Asked, then-over-reads.Learnt) (show-term-at t) show-term.Post)
+    → Headed (mapOf false (c .before .before .before .before .before .before .before .before .before .before .args .map)) (c .before .before .before .before .before .before .before .before .before .before .args .depth) (c .before .before .before .before .before .before .read .result) (c .if3 .head)
+headed t c = ⊎-elim (λ w. search head-named) (λ w. search head-kept) (c .if3 .came)
+
 pub +show-args+show-hole+show-term-spec : {M : Type 1} → statement M
 +show-args+show-hole+show-term-spec =
     close μ-show-args μ-show-hole μ-show-term (λ t. show-args-lts.spec (
@@ -64,24 +83,29 @@ pub +show-args+show-hole+show-term-spec : {M : Type 1} → statement M
       read-reads.Learnt,
       show-term-below t,
       show-term.Post,
-      show-args-below t,
-      show-args.Post,
-      then-over-reads.Asked,
-      then-over-reads.Learnt,
+      push-cells-reads.Asked,
+      push-cells-reads.Learnt,
     )
     (show-args-at t)
     show-args.Post
-    (λ c. search args-end)
-    (λ c κs. search to-read-cell)
-    (λ c κs. (search fall-head, search to-head))
+    show-args-Inv-loop
+    show-args-μ-loop
+    (λ c. search turn-first)
+    (λ c κs. search turn-read)
+    (λ c κs. (search turn-falls, search turn-head))
     (λ c. search needs)
+    (λ c. search turn-kept)
+    (λ c. search turn-stops)
     (λ c. search needs)
-    (λ c κs. (search fall-rest, search to-rest))
-    (λ c κs. (search to-then-cell, search since-none))
-    (λ c. search needs)
-    (λ c. search list-stops)
-    (λ c. search needs)
-    (λ c. search list-goes))
+    (λ c. search (fits-index, room-left))
+    (λ c. search room-left)
+    (λ c. search (fits-next, room-left))
+    (λ c. search turn-less)
+    (λ c. search turn-next)
+    (λ c. search turn-array)
+    (λ c κs. search turn-cells)
+    (λ c. search turn-kept)
+    (λ c. search turn-ends))
     (λ t. show-hole-lts.spec (
       solution-of-reads.Asked,
       solution-of-reads.Learnt,
@@ -106,16 +130,18 @@ pub +show-args+show-hole+show-term-spec : {M : Type 1} → statement M
       show-term.Post,
       then-under-reads.Asked,
       then-under-reads.Learnt,
-      show-args-below t,
-      show-args.Post,
-      then-over-reads.Asked,
-      then-over-reads.Learnt,
-      place-of-reads.Asked,
-      place-of-reads.Learnt,
       follow-reads.Asked,
       follow-reads.Learnt,
       show-hole-below t,
       show-hole.Post,
+      renamed-reads.Asked,
+      renamed-reads.Learnt,
+      push-reads.Asked,
+      push-reads.Learnt,
+      show-args-below t,
+      show-args.Post,
+      then-over-reads.Asked,
+      then-over-reads.Learnt,
     )
     (show-term-at t)
     show-term.Post
@@ -125,20 +151,16 @@ pub +show-args+show-hole+show-term-spec : {M : Type 1} → statement M
     (λ c κs. (search to-then, search since-none))
     (λ c. search needs)
     (λ c. search shows-lambda)
-    (λ c κs. (search fall-args, search to-args))
-    (λ c κs. (search to-then, search since-none))
-    (λ c. search needs)
-    (λ c. search shows-constant)
-    (λ c κs. search to-look)
-    (λ c. search needs)
-    (λ c. search needs)
-    (λ c. search show-escape)
-    (λ c κs. (search fall-args, search to-args))
-    (λ c κs. (search to-then, search since-none))
-    (λ c. search needs)
-    (λ c. shows-variable _ (c .before .before .before .before .before .before .before .before .before .before .before .before .before .before .before .before .before .before .read .ensures) (c .before .before .before .before .before .before .before .before .before .before .before .before .before .before .before .before .before .before .before .before .before .before .pre .1) _ _ _ _ _ _ _ (c .before .before .before .before .before .before .before .before .before .before .before .before .before .before .before .before .if1 .left) (c .before .before .before .before .before .before .before .before .before .before .before .before .if3 .taken) (c .before .before .before .before .before .before .before .before .before .before .before .place-of .ensures) (c .before .before .before .before .before .before .before .before .before .v .given .1) (c .before .before .before .before .before .before .show-args2 .ensures) (c .before .before .then-over2 .ensures))
     (λ c κs. (search to-counts, search to-look))
     (λ c. search to-above)
     (λ c κs. (search fall-hole, search to-hole))
     (λ c. search needs)
     (λ c. search shows-occurrence)
+    (λ c κs. search to-name)
+    (λ c κs. (search to-push, search needs))
+    (λ c. search needs)
+    (λ c. let q = headed t (c .before .before .before .before .before .before) in search show-leaf)
+    (λ c κs. (search fall-args, search to-args))
+    (λ c κs. (search to-then, search since-none))
+    (λ c. search needs)
+    (λ c. let q = headed t (c .before .before .before .before .before .before .before .before .before .before) in search shows-rigid)

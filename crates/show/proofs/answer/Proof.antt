@@ -1,13 +1,11 @@
 -- `show::answer` meets its contract.
-use Rattle.show.specs.Answer.{answer-read, answer-counts, answer-orders, answer-ready, answered}
+use Rattle.show.specs.Answer.{answer-read, answer-counts, answer-ready, answered}
 use borrow.Author.Needs.{needs}
 use Rattle.show.proofs.answer.Statement.{statement}
 use Rattle.show.proofs.answer.Tie as tie
 use Rattle.show.proofs.answer.Reads as reads
 use Rattle.show.proofs.answer.Lts as lts
-use Rattle.places.proofs.count.Reads as count-reads
-use Rattle.places.proofs.empty.Reads as empty-reads
-use Rattle.show.proofs.in_order.Reads as in-order-reads
+use Rattle.places.proofs.in_order.Reads as in-order-reads
 use Rattle.show.proofs.show_hole.Reads as show-hole-reads
 use Rattle.table.proofs.read.Reads as read-reads
 
@@ -17,8 +15,6 @@ answer-spec =
     (tie.spec
     (λ c κs. search answer-read)
     (λ c κs. search answer-counts)
-    (λ c κs. search needs)
-    (λ c κs. search answer-orders)
     (λ c κs. search answer-ready)
     (λ c. search needs)
     (λ c. search answered))

@@ -1,12 +1,14 @@
 -- `walk_args`, `walk_hole` and `walk_term` of `walk`, which call each other, meet their contracts.
-use mathlib.Core.Path.{refl}
 use borrow.Author.Needs.{needs}
-use Rattle.laws.specs.Lists.{size}
 use Prim.Native.Nat.{suc}
+use mathlib.Core.Logic.{⊎-elim}
+use Rattle.rewrite.specs.Levels.{Headed, head-placed}
+use Rattle.laws.specs.Lists.{size}
+use Rattle.places.specs.Filling.{fits-index, fits-next}
 use Rattle.invariants.specs.Rise.{reach}
-use Rattle.walk.specs.Walks.{walk-lambda, walk-constant, walk-escape, walk-variable, hole-occurs, hole-keeps}
-use Rattle.walk.specs.Ready.{to-read, to-look, to-depth, to-then, fall-body, to-body, fall-args, to-args, fall-hole, to-hole, walks-hole, to-read-h, to-looks-h, to-counts, to-solution, to-keep, to-raise, fall-hop, to-hop, hops}
-use Rattle.walk.specs.ReadyList.{to-read-cell, fall-head, fall-rest, to-head, to-rest, to-then-cell, list-end, list-stops, list-goes}
+use Rattle.walk.specs.Walks.{mapAt, walk-escape, walk-leaf, hole-occurs, hole-keeps}
+use Rattle.walk.specs.Ready.{to-read, to-look, to-depth, to-push, to-since, to-then, fall-body, to-body, walked-lambda, fall-hole, to-hole, walked-hole, head-kept, fall-args, to-args, walked-rigid, to-read-h, to-looks-h, to-counts, to-solution, to-keep, to-raise, fall-hop, to-hop, hops}
+use Rattle.walk.specs.Each.{Turn, turn-first, turn-kept, turn-held, turn-holds, turn-array, turn-cells, turn-ends, turn-read, turn-falls, turn-less, turn-head, room-left, turn-stops, turn-next}
 use Prim.Native.Nat.{ℕ, _<_}
 use borrow.Fn.Kinds.{In}
 use borrow.Fn.PlainCycle.{Measures, is, falls, and}
@@ -19,26 +21,27 @@ use Rattle.walk.proofs.+walk_args+walk_hole+walk_term.Lts-walk_hole as 
 use Rattle.walk.proofs.walk_term.Reads as walk-term
 use Rattle.walk.proofs.walk_term.Kinds as walk-term-kinds
 use Rattle.walk.proofs.+walk_args+walk_hole+walk_term.Lts-walk_term as walk-term-lts
-use Rattle.places.proofs.count.Reads as count-reads
-use Rattle.places.proofs.follow.Reads as follow-reads
 use Rattle.narrow.proofs.keep_placed.Reads as keep-placed-reads
+use Rattle.narrow.proofs.push_cells.Reads as push-cells-reads
+use Rattle.places.proofs.follow.Reads as follow-reads
 use Rattle.places.proofs.place_of.Reads as place-of-reads
-use Rattle.walk.proofs.raise.Reads as raise-reads
-use Rattle.table.proofs.read.Reads as read-reads
+use Rattle.store.proofs.push.Reads as push-reads
 use Rattle.store.proofs.solution_of.Reads as solution-of-reads
 use Rattle.store.proofs.then_over.Reads as then-over-reads
 use Rattle.store.proofs.then_under.Reads as then-under-reads
+use Rattle.table.proofs.read.Reads as read-reads
+use Rattle.walk.proofs.raise.Reads as raise-reads
 use Rattle.walk.proofs.+walk_args+walk_hole+walk_term.{statement}
 use Rattle.walk.proofs.+walk_args+walk_hole+walk_term.Tie.{close}
 
 abbrev μ-walk-args : Measures 2 walk-args-kinds.ps ℕ
-μ-walk-args κs a = reach (a .1 .1 .1 .1 .0) (a .1 .1 .1 .1 .1 .1 .1 .0) (size (a .1 .1 .1 .1 .1 .1 .1 .1 .1 .0))
+μ-walk-args κs a = reach (a .1 .1 .0 .room) (a .1 .1 .0 .floor) (size (a .1 .1 .1 .1 .1 .1 .0))
 
 abbrev μ-walk-hole : Measures 2 walk-hole-kinds.ps ℕ
-μ-walk-hole κs a = reach (a .1 .1 .1 .1 .0) (a .1 .1 .1 .1 .1 .1 .1 .0) (a .1 .1 .1 .1 .1 .1 .1 .1 .1 .0)
+μ-walk-hole κs a = reach (a .1 .1 .0 .room) (a .1 .1 .0 .floor) (a .1 .1 .1 .1 .1 .1 .0)
 
 abbrev μ-walk-term : Measures 2 walk-term-kinds.ps ℕ
-μ-walk-term κs a = reach (a .1 .1 .1 .1 .0) (a .1 .1 .1 .1 .1 .1 .1 .0) (suc (a .1 .1 .1 .1 .1 .1 .1 .1 .1 .0))
+μ-walk-term κs a = reach (a .1 .1 .0 .room) (a .1 .1 .0 .floor) (suc (a .1 .1 .1 .1 .1 .1 .0))
 
 abbrev walk-args-at : ℕ → In 2 walk-args-kinds.ps
 walk-args-at t = and 2 walk-args-kinds.ps (is 2 walk-args-kinds.ps μ-walk-args t) walk-args.Pre
@@ -61,6 +64,17 @@ abbrev walk-term-below : ℕ → In 2 walk-term-kinds.ps
 walk-term-below t =
     and 2 walk-term-kinds.ps (falls 2 walk-term-kinds.ps _<_ μ-walk-term t) walk-term.Pre
 
+abbrev walk-args-Inv-loop : walk-args-lts.InvT-loop
+walk-args-Inv-loop table₀ solutions₀ task used map depth list noted₀ k₀ taken₀ left₀ table solutions noted k taken left = Turn (task .room) (task .n) (task .hole .0) map table₀ solutions₀ used (task .floor) depth list table solutions noted k taken left
+
+abbrev walk-args-μ-loop : walk-args-lts.MeasureT-loop
+walk-args-μ-loop table₀ solutions₀ task used map depth list noted₀ k₀ taken₀ left₀ table solutions noted k taken left = size left
+
+-- the head's number, where the ways of a constant and a variable meet
+headed : (t : ℕ) (c : walk-term-lts.Joined3 (read-reads.Asked, read-reads.Learnt, walk-term-below t, walk-term.Post, then-under-reads.Asked, then-under-reads.Learnt, walk-hole-below t, walk-hole.Post, place-of-reads.Asked, place-of-reads.Learnt, push-reads.Asked, push-reads.Learnt, walk-args-below t, walk-args.Post, then-over-reads.Asked, then-over-reads.Learnt) (walk-term-at t) walk-term.Post)
+    → Headed (mapAt (c .before .before .before .before .before .before .before .before .before .before .args .task .floor) (c .before .before .before .before .before .before .before .before .before .before .args .map)) (c .before .before .before .before .before .before .before .before .before .before .args .depth) (c .before .before .before .before .before .before .read .result) (c .if3 .head)
+headed t c = ⊎-elim (λ w. search head-placed) (λ w. search head-kept) (c .if3 .came)
+
 pub +walk-args+walk-hole+walk-term-spec : {M : Type 1} → statement M
 +walk-args+walk-hole+walk-term-spec =
     close μ-walk-args μ-walk-hole μ-walk-term (λ t. walk-args-lts.spec (
@@ -68,26 +82,31 @@ pub +walk-args+walk-hole+walk-term-spec : {M : Type 1} → statement M
       read-reads.Learnt,
       walk-term-below t,
       walk-term.Post,
-      walk-args-below t,
-      walk-args.Post,
-      then-over-reads.Asked,
-      then-over-reads.Learnt,
+      push-cells-reads.Asked,
+      push-cells-reads.Learnt,
     )
     (walk-args-at t)
     walk-args.Post
-    (λ c. search list-end)
-    (λ c κs. search to-read-cell)
-    (λ c κs. (search fall-head, search to-head))
+    walk-args-Inv-loop
+    walk-args-μ-loop
+    (λ c. search turn-first)
+    (λ c κs. search turn-read)
+    (λ c κs. (search turn-falls, search turn-head))
     (λ c. search needs)
+    (λ c. search turn-kept)
+    (λ c. search turn-held)
+    (λ c. search turn-stops)
     (λ c. search needs)
-    (λ c κs. (search fall-rest, to-rest _ (c .before .before .before .before .before .before .before .before .before .before .before .before .before .before .if1 .left) (c .before .before .before .before .before .before .before .before .before .before .before .before .read .ensures) (c .before .before .before .before .before .before .before .before .before .before .before .before .before .before .before .before .before .pre .1) _ _ _ (c .before .before .before .before .before .before .before .before .before .walk-term .ensures) _ _ (c .before .before .before .head .given .1)))
-    (λ c κs. (search to-then-cell, search needs))
-    (λ c. search needs)
-    (λ c. search needs)
-    (λ c. search list-stops)
-    (λ c. search needs)
-    (λ c. search needs)
-    (λ c. list-goes _ (c .before .before .before .before .before .before .before .before .before .before .before .before .before .before .before .before .before .before .before .before .before .before .before .if1 .left) (c .before .before .before .before .before .before .before .before .before .before .before .before .before .before .before .before .before .before .before .before .before .read .ensures) (c .before .before .before .before .before .before .before .before .before .before .before .before .before .before .before .before .before .before .before .before .before .before .before .before .before .before .pre .1) _ _ _ (c .before .before .before .before .before .before .before .before .before .before .before .before .before .before .before .before .before .before .walk-term .ensures) _ _ (c .before .before .before .before .before .before .before .before .before .before .before .before .head .given .1) _ _ _ _ _ (c .before .before .before .before .before .before .before .before .walk-args .ensures) (c .before .before .then-over .ensures)))
+    (λ c. search (fits-index, room-left))
+    (λ c. search room-left)
+    (λ c. search (fits-next, room-left))
+    (λ c. search turn-less)
+    (λ c. search turn-next)
+    (λ c. search turn-array)
+    (λ c κs. search turn-cells)
+    (λ c. search turn-kept)
+    (λ c. search turn-holds)
+    (λ c. search turn-ends))
     (λ t. walk-hole-lts.spec (
       read-reads.Asked,
       read-reads.Learnt,
@@ -95,8 +114,6 @@ pub +walk-args+walk-hole+walk-term-spec : {M : Type 1} → statement M
       follow-reads.Learnt,
       solution-of-reads.Asked,
       solution-of-reads.Learnt,
-      count-reads.Asked,
-      count-reads.Learnt,
       keep-placed-reads.Asked,
       keep-placed-reads.Learnt,
       raise-reads.Asked,
@@ -111,16 +128,15 @@ pub +walk-args+walk-hole+walk-term-spec : {M : Type 1} → statement M
     (λ c. search hole-occurs)
     (λ c κs. (search to-counts, search to-looks-h))
     (λ c κs. search to-solution)
-    (λ c κs. search to-counts)
     (λ c κs. search to-keep)
     (λ c. search needs)
     (λ c. search needs)
     (λ c. search hole-keeps)
     (λ c κs. search to-raise)
-    (λ c κs. (search fall-hop, to-hop _ _ _ _ (c .before .before .before .before .before .before .before .before .before .before .before .read .ensures) (c .before .before .before .before .solution-of .ensures) (c .before .before .before .if2 .left) (c .before .before .raise .ensures) (c .before .before .before .before .before .before .follow .ensures) (c .before .before .before .before .before .before .before .before .before .before .before .before .before .before .before .pre .1)))
+    (λ c κs. (search fall-hop, to-hop _ _ _ _ (c .before .before .before .before .before .before .before .before .before .before .before .before .read .ensures) (c .before .before .before .before .solution-of .ensures) (c .before .before .before .if2 .left) (c .before .before .raise .ensures) (c .before .before .before .before .before .before .follow .ensures) (c .before .before .before .before .before .before .before .before .before .before .before .before .before .before .before .before .pre .1)))
     (λ c. search needs)
     (λ c. search needs)
-    (λ c. hops _ _ _ _ _ _ _ (c .before .before .before .before .before .before .before .before .before .before .before .before .before .before .before .before .read .ensures) (c .before .before .before .before .before .before .before .before .before .before .before .before .before .if1 .left) (c .before .before .before .before .before .before .before .before .before .solution-of .ensures) (c .before .before .before .before .before .before .before .before .if2 .left) (c .before .before .before .before .before .before .before .raise .ensures) (c .before .before .before .before .before .before .before .before .before .before .before .follow .ensures) (c .before .before .before .before .before .before .before .before .before .before .before .before .before .before .before .before .before .before .before .before .pre .1) (c .before .before .before .before .walk-term .ensures)))
+    (λ c. hops _ _ _ _ (c .before .before .before .before .before .before .before .before .before .before .before .before .before .before .before .before .before .read .ensures) (c .before .before .before .before .before .before .before .before .before .solution-of .ensures) (c .before .before .before .before .before .before .before .before .if2 .left) (c .before .before .before .before .before .before .before .raise .ensures) (c .before .before .before .before .before .before .before .before .before .before .before .follow .ensures) (c .before .before .before .before .before .before .before .before .before .before .before .before .before .before .before .before .before .before .before .before .before .pre .1) _ _ _ (c .before .before .before .before .before .before .before .before .before .before .before .before .before .before .if1 .left) (c .before .before .before .before .walk-term .ensures)))
     λ t. walk-term-lts.spec (
       read-reads.Asked,
       read-reads.Learnt,
@@ -128,14 +144,16 @@ pub +walk-args+walk-hole+walk-term-spec : {M : Type 1} → statement M
       walk-term.Post,
       then-under-reads.Asked,
       then-under-reads.Learnt,
+      walk-hole-below t,
+      walk-hole.Post,
+      place-of-reads.Asked,
+      place-of-reads.Learnt,
+      push-reads.Asked,
+      push-reads.Learnt,
       walk-args-below t,
       walk-args.Post,
       then-over-reads.Asked,
       then-over-reads.Learnt,
-      place-of-reads.Asked,
-      place-of-reads.Learnt,
-      walk-hole-below t,
-      walk-hole.Post,
     )
     (walk-term-at t)
     walk-term.Post
@@ -145,23 +163,21 @@ pub +walk-args+walk-hole+walk-term-spec : {M : Type 1} → statement M
     (λ c κs. (search to-then, search needs))
     (λ c. search needs)
     (λ c. search needs)
-    (λ c. search (walk-lambda, fall-body))
-    (λ c κs. (search fall-args, search to-args))
-    (λ c κs. (search to-then, search needs))
+    (λ c. search walked-lambda)
+    (λ c κs. (search fall-hole, search to-hole))
     (λ c. search needs)
     (λ c. search needs)
-    (λ c. search (walk-constant, fall-args))
+    (λ c. search walked-hole)
     (λ c κs. search to-look)
     (λ c. search needs)
     (λ c. search needs)
     (λ c. search needs)
     (λ c. search walk-escape)
+    (λ c κs. (search to-push, search to-since))
+    (λ c. search needs)
+    (λ c. let q = headed t (c .before .before .before .before .before .before) in search walk-leaf)
     (λ c κs. (search fall-args, search to-args))
     (λ c κs. (search to-then, search needs))
     (λ c. search needs)
     (λ c. search needs)
-    (λ c. walk-variable _ _ _ _ _ _ _ _ _ _ _ _ _ _ _ _ _ _ (c .before .before .before .before .before .before .before .before .before .before .before .before .before .before .before .before .before .before .before .before .before .read .ensures) (c .before .before .before .before .before .before .before .before .before .before .before .before .before .before .before .if3 .taken) (c .before .before .before .before .before .before .before .before .before .before .before .before .before .before .place-of .ensures) (c .before .before .before .before .before .before .before .before .before .before .before .before .v .given .1) (fall-args _ _ refl (c .before .before .before .before .before .before .before .before .before .before .before .before .before .before .before .before .before .before .before .before .before .read .ensures) (c .before .before .before .before .before .before .before .before .before .before .before .before .before .before .before .before .before .before .before .if1 .left) (c .before .before .before .before .before .before .before .before .before .before .before .before .before .before .before .before .before .before .before .before .before .before .before .before .before .pre .1)) (c .before .before .before .before .before .before .before .before .walk-args2 .ensures) (c .before .before .then-over2 .ensures))
-    (λ c κs. (search fall-hole, search to-hole))
-    (λ c. search needs)
-    (λ c. search needs)
-    (λ c. search walks-hole)
+    (λ c. walked-rigid _ (c .before .before .before .before .before .before .before .before .before .before .before .before .before .before .before .before .before .before .before .read .ensures) (c .before .before .before .before .before .before .before .before .before .before .before .before .before .before .before .before .before .if1 .left) (c .before .before .before .before .before .before .before .before .before .before .before .before .before .before .before .if2 .left) (c .before .before .before .before .before .before .before .before .before .before .before .before .before .before .before .before .before .before .before .before .before .before .before .pre .1) _ _ _ _ _ _ (headed t (c .before .before .before .before .before .before .before .before .before .before .before .before .before)) (c .before .before .before .before .before .before .before .before .walk-args .ensures) (c .before .before .then-over .ensures))

@@ -7,4 +7,4 @@ use Rattle.walk.proofs.raise.Reads as reads
 use Rattle.walk.proofs.raise.Lts as lts
 
 pub raise-spec : {M : Type 1} → statement M
-raise-spec = tie.close (tie.spec (λ c. search (raised-first, raised-on)) (λ c. search needs) (λ c. search (raised-first, raised-on)))
+raise-spec = tie.close (tie.spec (λ c. search raised-first) (λ c. search needs) (λ c. search raised-on))

@@ -15,6 +15,6 @@ then-record-spec =
     (λ c. search needs)
     (λ c. search needs)
     (λ c. search needs)
-    (λ c. search (records-stops, records-goes))
+    (λ c. search records-stops)
     (λ c. search needs)
-    (λ c. search (records-stops, records-goes)))
+    (λ c. search records-goes))
