@@ -1,37 +1,27 @@
 -- The search: the lowest records keep the rules, and the next is looked at.
-use Prim.Native.Nat.{ℕ, _+_, _*_, _<_, _≤_}
+use Prim.Native.Nat.{ℕ, _+_, _<_, _≤_}
 use mathlib.Core.Path.{_≡_, refl, sym, _∙_}
 use mathlib.Core.Bool.{Bool, true, false, not}
 use mathlib.Core.List.{List}
 use native.Mathlib.Omega.{arith}
-use lib.ListN.{length, replicate, length-replicate, getD-replicate}
+use lib.ListN.{length}
 use Rattle.rules.specs.declared.Found.the-variants.{At, Nowhere}
 use Rattle.rules.specs.Records.{keeps, broken}
 use Rattle.laws.specs.Search.{ahead, ahead-start, ahead-on, ahead-stop, ahead-end}
 use Rattle.records.specs.Marks.{used}
 use Rattle.records.specs.Chains.{latest}
-use Rattle.records.specs.Rows.{Passed, Room, RecordAsks, RecordSays, SearchAsks}
+use Rattle.records.specs.Rows.{Passed, Blank, RecordAsks, RecordSays, BrokenAsks}
 use Rattle.records.proofs.Uses.{marked-start}
 
 -- The start
 
-room-start : (k n : ℕ) → n ≤ k → Room (replicate k 0) (replicate k 0) (replicate k 0) (replicate k 0) n
-room-start k n h = record { marks = long; lengths = long; last = long; before = long }
-  where
-    long : n ≤ length (replicate {A = ℕ} k 0)
-    long = simp length-replicate h
-
-passed-start : (ws : List ℕ) (k : ℕ) → Passed ws (replicate k 0) (replicate k 0) (replicate k 0) (replicate k 0) 0
-passed-start ws k = record {
+passed-start : (ws ms ls la be : List ℕ) (n : ℕ) → Blank ms ls la be n → Passed ws ms ls la be 0
+passed-start ws ms ls la be n p = record {
   lower = λ r h. absurd (omega arith);
-  marks = unfold used in marked-start k;
+  marks = unfold used in marked-start ms (p .marks);
   lengths = record { marked = λ c h e. absurd (omega arith) };
-  chains = record { last = λ b h. getD-replicate {A = ℕ} k b 0 0 (simp length-replicate at h) ∙ (unfold latest in refl); before = λ j h t. absurd (omega arith) };
+  chains = record { last = unfold latest in p .last; before = λ j h t. absurd (omega arith) };
 }
-
--- arrays of k zeros serve for at most k records
-pub search-asks : (ws : List ℕ) (k n : ℕ) → k ≤ 4096 → (n ≤ k) × (4 * n ≤ length ws) → SearchAsks ws (replicate k 0) (replicate k 0) (replicate k 0) (replicate k 0) n
-search-asks ws k n h p = let l = p .0 in record { inside = p .1; few = omega arith; room = room-start k n l; start = passed-start ws k }
 
 -- From record to record
 
@@ -44,9 +34,9 @@ pub record Going (ws ms₀ ls₀ la₀ be₀ ms ls la be : List ℕ) (n r : ℕ)
   pub last : length la ≡ length la₀
   pub before : length be ≡ length be₀
 
-pub going-start : (ws ms ls la be : List ℕ) (n : ℕ) → SearchAsks ws ms ls la be n → Going ws ms ls la be ms ls la be n 0
+pub going-start : (ws ms ls la be : List ℕ) (n : ℕ) → BrokenAsks ws ms ls la be n → Going ws ms ls la be ms ls la be n 0
 going-start ws ms ls la be n p = record {
-  passed = p .start;
+  passed = passed-start ws ms ls la be n (p .blank);
   left = unfold broken in ahead-start n (λ r. not (keeps ws r));
   marks = refl;
   lengths = refl;
@@ -58,14 +48,14 @@ module _ (ws ms₀ ls₀ la₀ be₀ ms ls la be : List ℕ) (n r : ℕ) (g : Go
   pub going-end : n ≤ r → Nowhere ≡ broken ws n
   going-end h = sym (g .left ∙ ahead-end n _ r h)
 
-  pub going-asks : SearchAsks ws ms₀ ls₀ la₀ be₀ n → r < n → RecordAsks ws ms ls la be r
+  pub going-asks : BrokenAsks ws ms₀ ls₀ la₀ be₀ n → r < n → RecordAsks ws ms ls la be r
   going-asks p h =
       let i = p .inside in
       let f = p .few in
-      let a = p .room .marks in
-      let b = p .room .lengths in
-      let c = p .room .last in
-      let d = p .room .before in
+      let a = p .blank .room .marks in
+      let b = p .blank .room .lengths in
+      let c = p .blank .room .last in
+      let d = p .blank .room .before in
       let a′ = g .marks in
       let b′ = g .lengths in
       let c′ = g .last in

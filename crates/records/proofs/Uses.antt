@@ -6,7 +6,7 @@ use mathlib.Core.List.{List, [], _∷_}
 use native.Mathlib.Omega.{arith}
 use native.Mathlib.Decide.{ℕ-discrete}
 use borrow.Author.Tests.{not-true, ltb-true, eq-eqb, ne-eqb, lt-leb, le-leb}
-use lib.ListN.{length, getD, set, replicate, length-set, length-replicate, getD-replicate}
+use lib.ListN.{length, getD, set, length-set}
 use lib.Seq.{getD-set-same, getD-set-other}
 use lib.Dec.{eqb, ltb, leb}
 use Rattle.rules.specs.Lists.{both, either, any, among, those}
@@ -79,9 +79,9 @@ module _ (ws : List ℕ) (r x : ℕ) where
 
 -- Marks
 
-pub marked-start : (n : ℕ) → Marked (replicate n 0) []
+pub marked-start : (ms : List ℕ) → ((x : ℕ) → x < length ms → getD ms x 0 ≡ 0) → Marked ms []
 unfolding among any
-marked-start n = record { marked = λ x h. getD-replicate {A = ℕ} n x 0 0 (simp length-replicate at h) }
+marked-start ms h = record { marked = h }
 
 pub marked-same : (ms u v : List ℕ) → ((x : ℕ) → among u x ≡ among v x) → Marked ms u → Marked ms v
 marked-same ms u v h p = record { marked = λ x n. p .marked x n ∙ rw (h x) }

@@ -3,7 +3,7 @@ use Prim.Native.Nat.{ℕ, _+_, _*_, _<_, _≤_}
 use mathlib.Core.Path.{_≡_}
 use mathlib.Core.Bool.{Bool, true}
 use mathlib.Core.List.{List, _++_}
-use lib.ListN.{length}
+use lib.ListN.{length, getD}
 use Rattle.rules.specs.Lists.{both}
 use Rattle.rules.specs.Records.{shape, fits, shaped, first-use, keeps}
 use Rattle.laws.specs.Sound.{Sound}
@@ -60,9 +60,14 @@ pub record RecordSays (ws ms ls la be : List ℕ) (r : ℕ) (b : Bool) : Type 0 
   pub answer : b ≡ keeps ws r
   pub next : b ≡ true → Passed ws ms ls la be (r + 1)
 
--- the first n records lie in the table and have marks, and no record is passed yet
-pub record SearchAsks (ws ms ls la be : List ℕ) (n : ℕ) : Type 0 where
+-- blank marks for n records: none is referred to, and no chain has begun; a length and the one before are read only after they are written
+pub record Blank (ms ls la be : List ℕ) (n : ℕ) : Type 0 where
+  pub room : Room ms ls la be n
+  pub marks : (x : ℕ) → x < length ms → getD ms x 0 ≡ 0
+  pub last : (b : ℕ) → b < length la → getD la b 0 ≡ 0
+
+-- the first n records lie in the table and have blank marks
+pub record BrokenAsks (ws ms ls la be : List ℕ) (n : ℕ) : Type 0 where
   pub inside : 4 * n ≤ length ws
   pub few : n ≤ 4096
-  pub room : Room ms ls la be n
-  pub start : Passed ws ms ls la be 0
+  pub blank : Blank ms ls la be n

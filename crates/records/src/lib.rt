@@ -10,12 +10,12 @@ use table::NONE;
 use table::Record;
 use table::read;
 ghost use mathlib.Core.Path.{_≡_};
-ghost use Prim.Native.Nat.{_+_, _*_, _<_, _≤_};
+ghost use Prim.Native.Nat.{_+_, _*_, _<_};
 ghost use lib.ListN.{length};
 ghost use Rattle.rules.specs.Records.{broken};
 ghost use Rattle.records.specs.Marks.{alikeTags, refersTo, counts, ListAsks, ListSays, MarkAsks, MarkSays};
 ghost use Rattle.records.specs.Chains.{equals, TypeAsks, TypeSays};
-ghost use Rattle.records.specs.Rows.{FieldAsks, FieldSays, RowAsks, RowSays, RecordAsks, RecordSays, SearchAsks};
+ghost use Rattle.records.specs.Rows.{FieldAsks, FieldSays, RowAsks, RowSays, RecordAsks, RecordSays, BrokenAsks};
 
 // Both are tags of types, or both of terms.
 fn alike_tags(k: u32, j: u32) -> bool
@@ -199,8 +199,8 @@ fn record_keeps(
     }
 }
 
-// The lowest of the first n records that breaks a rule, with marks for each of them.
-fn search(
+// The lowest of the first n records that breaks a rule, with blank marks for each of them.
+pub fn broken(
     table: &[u32],
     marks: &mut [u8],
     lengths: &mut [u8],
@@ -208,7 +208,7 @@ fn search(
     before: &mut [u16],
     n: u32,
 ) -> Found
-    requires { ⌜ SearchAsks (now table) (now marks) (now lengths) (now last) (now before) n ⌝ }
+    requires { ⌜ BrokenAsks (now table) (now marks) (now lengths) (now last) (now before) n ⌝ }
     ensures { λ r. ⌜ r ≡ broken (now (table .entry)) n ⌝ }
 {
     let mut r = 0;
@@ -219,31 +219,4 @@ fn search(
         r += 1;
     }
     Found::Nowhere
-}
-
-// The search for at most 256 records: small problems clear small arrays.
-fn broken_small(table: &[u32], n: u32) -> Found
-    requires { ⌜ (n ≤ 256) × (4 * n ≤ length (now table)) ⌝ }
-    ensures { λ r. ⌜ r ≡ broken (now (table .entry)) n ⌝ }
-{
-    let mut marks = [0u8; 256];
-    let mut lengths = [0u8; 256];
-    let mut last = [0u16; 256];
-    let mut before = [0u16; 256];
-    search(table, &mut marks, &mut lengths, &mut last, &mut before, n)
-}
-
-// The lowest of the first n records that breaks a rule.
-pub fn broken(table: &[u32], n: u32) -> Found
-    requires { ⌜ (n ≤ 4096) × (4 * n ≤ length (now table)) ⌝ }
-    ensures { λ r. ⌜ r ≡ broken (now (table .entry)) n ⌝ }
-{
-    if n <= 256 {
-        return broken_small(table, n);
-    }
-    let mut marks = [0u8; 4096];
-    let mut lengths = [0u8; 4096];
-    let mut last = [0u16; 4096];
-    let mut before = [0u16; 4096];
-    search(table, &mut marks, &mut lengths, &mut last, &mut before, n)
 }

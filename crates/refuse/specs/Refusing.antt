@@ -4,7 +4,7 @@ use mathlib.Core.Path.{_≡_, refl, sym, _∙_}
 use mathlib.Core.List.{List}
 use mathlib.Core.Bool.{Bool, true, false}
 use native.Mathlib.Omega.{arith}
-use lib.ListN.{length}
+use lib.ListN.{length, getD, replicate, length-replicate, getD-replicate}
 use lib.Dec.{eqb, ltb}
 use borrow.Author.Tests.{lt-ltb, le-ltb}
 use Rattle.rules.specs.declared.Found.{Found}
@@ -20,6 +20,8 @@ use Rattle.rules.specs.Pattern.{no-pattern}
 use Rattle.typing.specs.declared.Judged.{Judged}
 use Rattle.typing.specs.declared.Judged.the-variants.{Fine, IllTyped, NoPattern}
 use Rattle.typing.specs.Judging.{judged}
+use Rattle.typing.specs.Asks.{JudgeAsks}
+use Rattle.records.specs.Rows.{Room, BrokenAsks}
 use Rattle.rules.specs.Solve.{Refusal as Refuses, admitted, refused, refusal}
 use Rattle.laws.specs.Members.{Legal, broken-legal}
 use Rattle.refuse.specs.declared.Asked.{Asked}
@@ -107,23 +109,35 @@ module _ (ws : List ℕ) (n : ℕ) where
 unfoldable pub sound : Bool → List ℕ → ℕ → Refuses
 sound b ws n = elim (broken ws n) [ At r ↦ refused 5 r | Nowhere ↦ asking b ws n ]
 
--- the records are in the table, and this is what the search for a broken one found
-pub record Searched (ws : List ℕ) (n : ℕ) (x : Found) : Type 0 where
-  pub few : n ≤ 4096
-  pub inside : 4 * n ≤ length ws
-  pub found : x ≡ broken ws n
-
-module _ (ws : List ℕ) (n : ℕ) (x : Found) (h : Searched ws n x) where
-  pub legal : x ≡ Nowhere → Legal ws n
-  legal z = broken-legal ws n (h .few, h .inside) (sym (h .found) ∙ z)
-
+-- what the search for a broken record found
+module _ (ws : List ℕ) (n : ℕ) (x : Found) (e : x ≡ broken ws n) where
   pub broken-at : (b : Bool) (p : ℕ) → x ≡ At p → sound b ws n ≡ refused 5 p
   unfolding sound
-  broken-at b p z = rw (sym (h .found) ∙ z, sound)
+  broken-at b p z = rw (sym e ∙ z, sound)
 
   pub none-broken : (b : Bool) (y : Refuses) → x ≡ Nowhere → asking b ws n ≡ y → sound b ws n ≡ y
   unfolding sound
-  none-broken b y z k = rw (sym (h .found) ∙ z, sound) k
+  none-broken b y z k = rw (sym e ∙ z, sound) k
+
+  -- the marks of the last types are as many as before: room for the binders of each term
+  pub judge-asks : (ms ls la be la₁ : List ℕ) → BrokenAsks ws ms ls la be n → length la₁ ≡ length la → x ≡ Nowhere → JudgeAsks ws la₁ n
+  judge-asks ms ls la be la₁ p l z =
+      let long = p .blank .room .last in
+      record { legal = broken-legal ws n (p .few, p .inside) (sym e ∙ z); room = omega arith }
+
+-- arrays of k zeros serve for at most k records
+module _ (k : ℕ) (small : k ≤ 4096) (ws : List ℕ) (n : ℕ) (le : n ≤ k) where
+  room : Room (replicate k 0) (replicate k 0) (replicate k 0) (replicate k 0) n
+  room = record { marks = long; lengths = long; last = long; before = long }
+    where
+      long : n ≤ length (replicate {A = ℕ} k 0)
+      long = simp length-replicate le
+
+  pub zeros-ask : 4 * n ≤ length ws → BrokenAsks ws (replicate k 0) (replicate k 0) (replicate k 0) (replicate k 0) n
+  zeros-ask inside = record { inside = inside; few = omega arith; blank = record { room = room; marks = zeros; last = zeros } }
+    where
+      zeros : (x : ℕ) → x < length (replicate {A = ℕ} k 0) → getD {A = ℕ} (replicate k 0) x 0 ≡ 0
+      zeros x l = getD-replicate {A = ℕ} k x 0 0 (simp length-replicate at l)
 
 -- 4, then the others
 module _ (b : Bool) (ws ss : List ℕ) (n R : ℕ) (room : records ws ≡ R) where
@@ -147,6 +161,3 @@ module _ (ws : List ℕ) (n R : ℕ) (room : records ws ≡ R) (le : n ≤ R) wh
   pub in-table : (n ≤ 4096) × (4 * n ≤ length ws)
   unfolding records
   in-table = (omega arith, omega arith)
-
-  pub searched : (x : Found) → x ≡ broken ws n → Searched ws n x
-  searched x e = record { few = in-table .0; inside = in-table .1; found = e }

@@ -22,7 +22,7 @@ use Rattle.laws.specs.Places.{TermAt, Sides, sides-at}
 use Rattle.typing.specs.declared.Judged.the-variants.{Fine, IllTyped, NoPattern}
 use Rattle.typing.specs.Stack.{binders}
 use Rattle.typing.specs.Offences.{sides, reached, still}
-use Rattle.typing.specs.Asks.{fails, TermAsks, EquationAsks, SearchAsks, Told, Offends}
+use Rattle.typing.specs.Asks.{fails, TermAsks, EquationAsks, JudgeAsks, Told, Offends}
 use Rattle.typing.specs.Judging.{judged}
 use Rattle.typing.proofs.Occurrences.{least-low}
 
@@ -107,14 +107,14 @@ module _ (ws : List ℕ) (n : ℕ) where
 
 -- the records below e are passed
 pub record Gone (ws st₀ : List ℕ) (n : ℕ) (st : List ℕ) (low e : ℕ) : Type 0 where
-  pub asks : SearchAsks ws st₀ n
+  pub asks : JudgeAsks ws st₀ n
   pub same-length : length st ≡ length st₀
   pub within : e ≤ n
   pub ill : ill-typed ws n ≡ ahead n (fails ws) e
   pub off : no-pattern ws n ≡ min low (still ws n e)
   pub few : low ≤ NONE
 
-pub gone-none : (ws st : List ℕ) (n : ℕ) → SearchAsks ws st n → Gone ws st n st NONE 0
+pub gone-none : (ws st : List ℕ) (n : ℕ) → JudgeAsks ws st n → Gone ws st n st NONE 0
 unfolding ill-typed fails
 gone-none ws st n a =
     let s = still-start ws n in

@@ -63,7 +63,7 @@ pub record EquationAsks (ws st : List ℕ) (low e : ℕ) : Type 0 where
   pub few : low ≤ NONE
 
 -- a legal table, and room for the binders of each term
-pub record SearchAsks (ws st : List ℕ) (n : ℕ) : Type 0 where
+pub record JudgeAsks (ws st : List ℕ) (n : ℕ) : Type 0 where
   pub legal : Legal ws n
   pub room : n ≤ length st
 

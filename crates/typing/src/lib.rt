@@ -17,11 +17,10 @@ ghost use Rattle.rules.specs.Lists.{enough};
 ghost use Rattle.rules.specs.Words.{isType};
 ghost use Rattle.rules.specs.Typing.{checks};
 ghost use Rattle.rules.specs.Pattern.{offence};
-ghost use Rattle.laws.specs.Members.{Legal};
 ghost use Rattle.laws.specs.Places.{TypeAt, ListAt};
 ghost use Rattle.typing.specs.Stack.{binders, typeOf};
-ghost use Rattle.typing.specs.Offences.{among-terms, reached};
-ghost use Rattle.typing.specs.Asks.{named, applies, filled, fails, IsFinal, TermAsks, ArgsAsk, EquationAsks, SearchAsks, Told, Offends};
+ghost use Rattle.typing.specs.Offences.{among-terms};
+ghost use Rattle.typing.specs.Asks.{named, applies, filled, IsFinal, TermAsks, ArgsAsk, EquationAsks, JudgeAsks, Told, Offends};
 ghost use Rattle.typing.specs.Judging.{judged};
 
 // A head's final type, and how many arguments it asks.
@@ -211,9 +210,9 @@ fn offends(table: &[u32], stack: &mut [u16], low: &mut u32, e: u32) -> bool
     true
 }
 
-// The first n records are judged, with room on the stack for the binders of each term.
-fn search(table: &[u32], stack: &mut [u16], n: u32) -> Judged
-    requires { ⌜ SearchAsks (now table) (now stack) n ⌝ }
+// The first n records are judged, 6 before 7, with room on the stack for the binders of each term.
+pub fn judge(table: &[u32], stack: &mut [u16], n: u32) -> Judged
+    requires { ⌜ JudgeAsks (now table) (now stack) n ⌝ }
     ensures { λ r. ⌜ r ≡ judged (now (table .entry)) n ⌝ }
 {
     let mut low = NONE;
@@ -228,25 +227,4 @@ fn search(table: &[u32], stack: &mut [u16], n: u32) -> Judged
         return Judged::Fine;
     }
     Judged::NoPattern(low)
-}
-
-// A table of few records needs little room.
-fn judge_few(table: &[u32], n: u32) -> Judged
-    requires { ⌜ Legal (now table) n × (n ≤ 256) ⌝ }
-    ensures { λ r. ⌜ r ≡ judged (now (table .entry)) n ⌝ }
-{
-    let mut stack = [0u16; 256];
-    search(table, &mut stack, n)
-}
-
-// The first n records are judged: 6 before 7.
-pub fn judge(table: &[u32], n: u32) -> Judged
-    requires { ⌜ Legal (now table) n ⌝ }
-    ensures { λ r. ⌜ r ≡ judged (now (table .entry)) n ⌝ }
-{
-    if n <= 256 {
-        return judge_few(table, n);
-    }
-    let mut stack = [0u16; 4096];
-    search(table, &mut stack, n)
 }

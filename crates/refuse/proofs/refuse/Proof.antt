@@ -1,12 +1,11 @@
 -- `refuse::refuse` meets its contract.
-use Rattle.refuse.specs.Refusing.{above-room, few-solutions, all-admitted, in-table, searched}
+use Rattle.refuse.specs.Refusing.{above-room, few-solutions, all-admitted, in-table}
 use borrow.Author.Needs.{needs}
 use Rattle.refuse.proofs.refuse.Statement.{statement}
 use Rattle.refuse.proofs.refuse.Tie as tie
 use Rattle.refuse.proofs.refuse.Reads as reads
 use Rattle.refuse.proofs.refuse.Lts as lts
-use Rattle.records.proofs.broken.Reads as broken-reads
-use Rattle.refuse.proofs.refuse_broken.Reads as refuse-broken-reads
+use Rattle.refuse.proofs.refuse_sized.Reads as refuse-sized-reads
 use Rattle.refuse.proofs.room_of.Reads as room-of-reads
 
 pub refuse-spec : {M : Type 1} → statement M
@@ -19,6 +18,4 @@ refuse-spec =
     (λ c. search few-solutions)
     (λ c. search needs)
     (λ c κs. in-table _ _ _ (c .before .before .room-of .ensures) (c .before .if1 .left))
-    (λ c. search needs)
-    (λ c κs. search searched)
     (λ c. search all-admitted))

@@ -1,12 +1,28 @@
 -- `refuse::refuse_broken` meets its contract.
-use Rattle.refuse.specs.Refusing.{legal, broken-at, none-broken}
+use Rattle.refuse.specs.Refusing.{broken-at, none-broken, judge-asks}
 use borrow.Author.Needs.{needs}
 use Rattle.refuse.proofs.refuse_broken.Statement.{statement}
 use Rattle.refuse.proofs.refuse_broken.Tie as tie
 use Rattle.refuse.proofs.refuse_broken.Reads as reads
 use Rattle.refuse.proofs.refuse_broken.Lts as lts
+use Rattle.records.proofs.broken.Reads as broken-reads
 use Rattle.refuse.proofs.refuse_asked.Reads as refuse-asked-reads
 
 pub refuse-broken-spec : {M : Type 1} → statement M
 refuse-broken-spec =
-    tie.close (tie.spec (λ c. search needs) (λ c. search needs) (λ c κs. search legal) (λ c. search (broken-at, none-broken)) (λ c. search (broken-at, none-broken)))
+    tie.close
+    (tie.spec
+    (λ c κs. search needs)
+    (λ c. search needs)
+    (λ c. search needs)
+    (λ c κs. search judge-asks)
+    (λ c. search needs)
+    (λ c. search needs)
+    (λ c. search needs)
+    (λ c. search needs)
+    (λ c. search broken-at)
+    (λ c. search needs)
+    (λ c. search needs)
+    (λ c. search needs)
+    (λ c. search needs)
+    (λ c. search none-broken))
