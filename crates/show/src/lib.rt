@@ -18,7 +18,6 @@ use table::VA;
 use table::Variable;
 use table::read;
 ghost use mathlib.Core.Path.{_≡_};
-ghost use Prim.Native.Nat.{ℕ, _≤_};
 ghost use Rattle.rules.specs.Show.{answer as answerOf};
 ghost use Rattle.store.specs.Said.{store, shown};
 ghost use Rattle.show.specs.Shows.{ShowsT, ShowsL, ShowsH};

@@ -13,7 +13,7 @@ use store::Walked;
 use table::Hole;
 use table::NONE;
 ghost use mathlib.Core.Path.{_≡_};
-ghost use Prim.Native.Nat.{ℕ, _*_, _≤_};
+ghost use Prim.Native.Nat.{_*_, _≤_};
 ghost use lib.ListN.{length};
 ghost use Rattle.rules.specs.Answers.{pairs, number};
 ghost use Rattle.rules.specs.Solve.{admitted, refusal, leaves, solve as solveOf};

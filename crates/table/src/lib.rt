@@ -1,5 +1,5 @@
 // A table's records as code reads them, and the two countings of numbers in them.
-ghost use Prim.Native.Nat.{ℕ, _+_, _*_, _<_};
+ghost use Prim.Native.Nat.{_+_, _*_, _<_};
 ghost use lib.ListN.{length};
 ghost use Rattle.table.specs.Reading.{IsRecord};
 

@@ -4,7 +4,7 @@ use rules::Reply;
 use solver::show;
 use solver::solve;
 ghost use mathlib.Core.Path.{_≡_};
-ghost use Prim.Native.Nat.{ℕ, _≤_};
+ghost use Prim.Native.Nat.{_≤_};
 ghost use Rattle.rules.specs.Solve.{solve as solveOf};
 ghost use Rattle.rules.specs.Show.{show as showOf};
 ghost use Rattle.rules.specs.File.{read as readOf};
