@@ -53,6 +53,22 @@ fn final_type(table: &[u32], ty: u32) -> Final
     }
 }
 
+// The final type of what is left of a head's type. A base type is its own, and costs no call; an arrow is gone down.
+fn last_type(table: &[u32], ty: u32) -> Final
+    requires { ⌜ TypeAt (now table) ty ⌝ }
+    ensures { λ r. ⌜ IsFinal (now (table .entry)) ty r ⌝ }
+{
+    let x = read(table, ty);
+    if x.tag == AR {
+        let f = final_type(table, ty);
+        return Final {
+            base: f.base,
+            count: f.count,
+        };
+    }
+    Final { base: ty, count: 0 }
+}
+
 // The type of a bound variable.
 fn type_of(stack: &[u16], depth: usize, v: Variable) -> Found
     requires { ⌜ depth ≤ length (now stack) ⌝ }
@@ -157,7 +173,7 @@ fn check_args(
         list = cell.b;
         rest = t.b;
     }
-    let f = final_type(table, rest);
+    let f = last_type(table, rest);
     if f.count != 0 {
         return false;
     }

@@ -22,7 +22,7 @@ use Rattle.typing.proofs.check_term.Kinds as check-term-kinds
 use Rattle.typing.proofs.+check_args+check_fills+check_term.Lts-check_term as check-term-lts
 use Rattle.patterns.proofs.offended.Reads as offended-reads
 use Rattle.table.proofs.read.Reads as read-reads
-use Rattle.typing.proofs.final_type.Reads as final-type-reads
+use Rattle.typing.proofs.last_type.Reads as last-type-reads
 use Rattle.typing.proofs.names.Reads as names-reads
 use Rattle.typing.proofs.type_of.Reads as type-of-reads
 use Rattle.typing.proofs.+check_args+check_fills+check_term.{statement}
@@ -63,7 +63,7 @@ check-term-below t =
 
 abbrev check-args-calls : ℕ → check-args-lts.Claims
 check-args-calls t =
-    (read-reads.Asked, read-reads.Learnt, check-term-below t, check-term.Post, final-type-reads.Asked, final-type-reads.Learnt)
+    (read-reads.Asked, read-reads.Learnt, check-term-below t, check-term.Post, last-type-reads.Asked, last-type-reads.Learnt)
 
 abbrev check-fills-calls : ℕ → check-fills-lts.Claims
 check-fills-calls t =
