@@ -4,19 +4,18 @@ use mathlib.Core.Path.{_≡_}
 use mathlib.Core.List.{List, _∷_}
 use mathlib.Core.Option.{some}
 use Rattle.rules.specs.declared.Found.the-variants.{At}
-use Rattle.rules.specs.Words.{tag, fieldA, fieldB, NONE, LA, CA, VA, HA, variables}
+use Rattle.rules.specs.Words.{tag, fieldA, fieldB, NONE, LA, CA, VA}
 use Rattle.rules.specs.Store.{Store, goes}
 use Rattle.rules.specs.Map.{Map, placeOf}
 use Rattle.rules.specs.Rewrite.{copy}
-use Rattle.trees.specs.Tree.{Tree, cons, lift, ren, AllL}
-use Rattle.trees.specs.Free.{AllL-map}
+use Rattle.trees.specs.Tree.{Tree, cons, lift, ren}
 use Rattle.promise.specs.Reading.{Listed, one, many, Reads, r-cons}
 use Rattle.promise.specs.Outcomes.{Fits, went}
 use Rattle.promise.specs.Writing.{Wrote}
 use Rattle.promise.specs.Maps.{option-at, place}
 use Rattle.promise.specs.Rewriting.{Placed, placed-lam}
 use Rattle.promise.specs.Copying.{copy-ends}
-use Rattle.promise.specs.Parts.{Applied, applied-later, lambda-body, constant-arguments, variable-arguments, hole-occurrence, listed-parts}
+use Rattle.promise.specs.Parts.{Applied, applied-later, lambda-body, constant-arguments, variable-arguments, listed-parts}
 
 -- record r, under d lambdas
 pub record CopyKnown (m : Map) (R : ℕ) (s : Store) (d r : ℕ) : Type 0 where
@@ -58,12 +57,6 @@ module _ {m : Map} {R : ℕ} {s : Store} {d r : ℕ} (k : CopyKnown m R s d r) w
         (k .to (fieldA (s .words) r), option-at (placeOf m d (fieldA (s .words) r)) _ (p .0)),
         record { fits = k .fits; tree = variable-arguments e (k .reads) .0; applied = variable-arguments e (k .reads) .2; to = k .to; placed = p .1 },
       )
-
-  -- every argument of a hole has a place
-  pub copy-hole : tag (s .words) r ≡ HA → AllL (HasPlace m d) (variables (s .words) r)
-  copy-hole e =
-      let p : AllL (λ j. place m d j ≡ some (k .to j)) (variables (s .words) r) = rw (hole-occurrence e (k .reads)) at (k .placed) in
-      AllL-map (λ j q. (k .to j, option-at (placeOf m d j) (k .to j) q)) (variables (s .words) r) p
 
 module _ {m : Map} {R : ℕ} {s : Store} {d l : ℕ} (ne : l ≡ NONE → ⊥) (k : CopyAllKnown m R s d l) where
   parts : CopyKnown m R s d (fieldA (s .words) l) × CopyAllKnown m R s d (fieldB (s .words) l)

@@ -26,42 +26,38 @@ use Rattle.promise.specs.Showing.{length-from, nth-from}
 use Rattle.promise.specs.Parts.{Applied, lambda-body, constant-arguments, variable-arguments, hole-occurrence, listed-parts, context-length}
 use Rattle.promise.specs.CopyKnown.{HasPlace}
 
--- record r, under d lambdas
-pub record ShowKnown (R : ℕ) (s : Store) (m : Map) (d r : ℕ) : Type 0 where
+-- the table says its holes, and their typed solutions
+pub record Says (R : ℕ) (s : Store) : Type 0 where
   pub constants : ℕ → Option Ty
   pub sig : Sig
   pub sols : Solutions
   pub holds : Holds R s sig sols
   pub typed : SolTyped constants sig sols
+
+-- record r, under d lambdas
+pub record ShowKnown (R : ℕ) (s : Store) (m : Map) (d r : ℕ) : Type 0 where
+  pub says : Says R s
   pub tree : Tree
   pub reads : Reads (s .words) (s .used) (one r) tree
-  pub inside : Holes (Declared sig) tree
+  pub inside : Holes (Declared (says .sig)) tree
   pub to : ℕ → ℕ
   pub placed : Placed m d to tree
 
 -- the argument list l
 pub record ShowAllKnown (R : ℕ) (s : Store) (m : Map) (d l : ℕ) : Type 0 where
-  pub constants : ℕ → Option Ty
-  pub sig : Sig
-  pub sols : Solutions
-  pub holds : Holds R s sig sols
-  pub typed : SolTyped constants sig sols
+  pub says : Says R s
   pub tree : Tree
   pub applied : Applied (s .words) (s .used) l tree
-  pub inside : Holes (Declared sig) tree
+  pub inside : Holes (Declared (says .sig)) tree
   pub to : ℕ → ℕ
   pub placed : Placed m d to tree
 
 -- hole h, whose context variables have places
 pub record HoleKnown (R : ℕ) (s : Store) (m : Map) (h : ℕ) : Type 0 where
-  pub constants : ℕ → Option Ty
-  pub sig : Sig
-  pub sols : Solutions
-  pub holds : Holds R s sig sols
-  pub typed : SolTyped constants sig sols
+  pub says : Says R s
   pub context : List Ty
   pub base : ℕ
-  pub declared : sig h ≡ some (context, base)
+  pub declared : says .sig h ≡ some (context, base)
   pub to : ℕ → ℕ
   pub placed : (j : ℕ) → j < length context → place m 0 j ≡ some (to j)
 
@@ -70,11 +66,7 @@ module _ {R : ℕ} {s : Store} {m : Map} {d r : ℕ} (k : ShowKnown R s m d r) w
   show-body e =
       let b = lambda-body e (k .reads) in
       record {
-        constants = k .constants;
-        sig = k .sig;
-        sols = k .sols;
-        holds = k .holds;
-        typed = k .typed;
+        says = k .says;
         tree = b .0;
         reads = b .2;
         inside = rw (b .1) at (k .inside);
@@ -86,11 +78,7 @@ module _ {R : ℕ} {s : Store} {m : Map} {d r : ℕ} (k : ShowKnown R s m d r) w
   show-constant e =
       let a = constant-arguments e (k .reads) in
       record {
-        constants = k .constants;
-        sig = k .sig;
-        sols = k .sols;
-        holds = k .holds;
-        typed = k .typed;
+        says = k .says;
         tree = a .0;
         applied = a .2;
         inside = rw (a .1) at (k .inside);
@@ -107,11 +95,7 @@ module _ {R : ℕ} {s : Store} {m : Map} {d r : ℕ} (k : ShowKnown R s m d r) w
       let p = placed-head e in (
         (k .to (fieldA (s .words) r), option-at (placeOf m d (fieldA (s .words) r)) _ (p .0)),
         record {
-          constants = k .constants;
-          sig = k .sig;
-          sols = k .sols;
-          holds = k .holds;
-          typed = k .typed;
+          says = k .says;
           tree = a .0;
           applied = a .2;
           inside = rw (a .1) at (k .inside);
@@ -124,15 +108,11 @@ module _ {R : ℕ} {s : Store} {m : Map} {d r : ℕ} (k : ShowKnown R s m d r) w
   pub show-hole : tag (s .words) r ≡ HA → HoleKnown R s (follow m d 0 (variables (s .words) r)) (fieldA (s .words) r)
   show-hole e =
       let vs = variables (s .words) r in
-      let o : Declared (k .sig) (fieldA (s .words) r) vs = (rw (hole-occurrence e (k .reads)) at (k .inside)) in
+      let o : Declared (k .says .sig) (fieldA (s .words) r) vs = (rw (hole-occurrence e (k .reads)) at (k .inside)) in
       let p : AllL (λ j. place m d j ≡ some (k .to j)) vs = (rw (hole-occurrence e (k .reads)) at (k .placed)) in
       let n = o .3 in
       record {
-        constants = k .constants;
-        sig = k .sig;
-        sols = k .sols;
-        holds = k .holds;
-        typed = k .typed;
+        says = k .says;
         context = o .0;
         base = o .1;
         declared = o .2;
@@ -147,16 +127,12 @@ module _ {R : ℕ} {s : Store} {m : Map} {d l : ℕ} (ne : l ≡ NONE → ⊥) (
       p : (ys : List ℕ) × (k .applied .records ≡ fieldA (s .words) l ∷ ys) × Listed (s .words) (s .used) (fieldB (s .words) l) ys
       p = listed-parts ne (k .applied .listed)
 
-      go : (t : Tree) → Reads (s .words) (s .used) (many (fieldA (s .words) l ∷ p .0)) t → Holes (Declared (k .sig)) t → Placed m d (k .to) t
+      go : (t : Tree) → Reads (s .words) (s .used) (many (fieldA (s .words) l ∷ p .0)) t → Holes (Declared (k .says .sig)) t → Placed m d (k .to) t
           → ShowKnown R s m d (fieldA (s .words) l) × ShowAllKnown R s m d (fieldB (s .words) l)
       go (cons t a) (r-cons x y) q z = (
-        record { constants = k .constants; sig = k .sig; sols = k .sols; holds = k .holds; typed = k .typed; tree = t; reads = x; inside = q .0; to = k .to; placed = z .0 },
+        record { says = k .says; tree = t; reads = x; inside = q .0; to = k .to; placed = z .0 },
         record {
-          constants = k .constants;
-          sig = k .sig;
-          sols = k .sols;
-          holds = k .holds;
-          typed = k .typed;
+          says = k .says;
           tree = a;
           applied = record { records = p .0; listed = p .2; reads = y };
           inside = q .1;
@@ -173,29 +149,25 @@ module _ {R : ℕ} {s : Store} {m : Map} {d l : ℕ} (ne : l ≡ NONE → ⊥) (
 
 -- the solution of a solved hole
 module _ {R : ℕ} {s : Store} {m : Map} {h : ℕ} (k : HoleKnown R s m h) (t : ℕ) (e : getD (s .solutions) h NONE ≡ t) (n : t ≡ NONE → ⊥) where
-  found : (u : Tree) × (k .sols h ≡ some u) × Reads (s .words) (s .used) (one t) u
+  found : (u : Tree) × (k .says .sols h ≡ some u) × Reads (s .words) (s .used) (one t) u
   unfolding solved solution
   found =
       let z : solved s h ≡ true = ap not (ne-eqb (getD (s .solutions) h NONE) NONE (λ q. n (sym e ∙ q))) in
-      let u = solved-some (k .holds) h (declared-low (k .holds) h (k .context, k .base) (k .declared)) z in
+      let u = solved-some (k .says .holds) h (declared-low (k .says .holds) h (k .context, k .base) (k .declared)) z in
       (u .0, u .1, subst (λ r. Reads (s .words) (s .used) (one r) (u .0)) e (u .2))
 
   pub hole-solution : ShowKnown R s m 0 t
   hole-solution =
       let u = found in
-      let w = k .typed h (u .0) (u .1) in
+      let w = k .says .typed h (u .0) (u .1) in
       let v = declared-once (sym (w .2) ∙ k .declared) in
       record {
-        constants = k .constants;
-        sig = k .sig;
-        sols = k .sols;
-        holds = k .holds;
-        typed = k .typed;
+        says = k .says;
         tree = u .0;
         reads = u .2;
-        inside = k .holds .inside h (u .0) (u .1);
+        inside = k .says .holds .inside h (u .0) (u .1);
         to = k .to;
-        placed = All-map (k .placed) (u .0) (rw (ap length (v .0)) at (typed-scoped (k .constants) (k .sig) (w .3)));
+        placed = All-map (k .placed) (u .0) (rw (ap length (v .0)) at (typed-scoped (k .says .constants) (k .says .sig) (w .3)));
       }
 
 -- a hole of the table, over its context variables in order
@@ -210,11 +182,7 @@ hole-in-order {R} {s} S D σ i g h l t = go (D h) refl
         let c : length (elements (s .words) (fieldA (s .words) h)) ≡ length C = context-length (i .declared h C b q) in
         rw c
         (record {
-          constants = S;
-          sig = D;
-          sols = σ;
-          holds = i;
-          typed = g;
+          says = record { constants = S; sig = D; sols = σ; holds = i; typed = g };
           context = C;
           base = b;
           declared = q;
