@@ -24,8 +24,8 @@ ghost use Rattle.show.specs.Shows.{ShowsT, ShowsL, ShowsH};
 ghost use Rattle.show.specs.Ready.{ReadyT, ReadyL, ReadyH};
 ghost use Rattle.show.specs.Answer.{Answering};
 
-// An output of `room` records, and the floor. The floor is there for the proof that showing ends: no record below it is read, and it
-// rises at each solved hole.
+// What the parts of a showing share: an output of `room` records, and the floor. The floor is there for the proof that showing ends:
+// no record below it is read, and it rises at each solved hole.
 struct Task {
     room: u32,
     floor: u32,

@@ -29,7 +29,8 @@ ghost use Rattle.invariants.specs.Rise.{raised};
 ghost use Rattle.walk.specs.Ready.{ReadyT, ReadyL, ReadyH};
 ghost use Rattle.walk.specs.Assign.{Assigning, Records};
 
-// What stays the same in a walk: the records from n on are written, up to `room`, for this hole. The floor is 0 on the side of a pair.
+// What the parts of a walk share: records are written from n on, up to `room`; this hole is solved; the floor is 0 on the side of a pair,
+// where the map leads from places to positions.
 struct Task {
     n: u32,
     room: u32,
@@ -49,7 +50,7 @@ fn raise(n: u32, floor: u32, at: u32) -> u32
     at + 1
 }
 
-// The walk of a term for a hole.
+// The walk of a term: a head is looked at before its arguments; a variable without a place escapes.
 fn walk_term(
     table: &mut [u32],
     solutions: &mut [u32],

@@ -56,26 +56,7 @@ abbrev copy-args-μ-loop : copy-args-lts.MeasureT-loop
 copy-args-μ-loop table₀ n used room map depth list noted₀ k₀ taken₀ left₀ table noted k taken left = size left
 
 -- the head's number, where the ways of a constant and a variable meet
-headed : (t : ℕ) (c : copy-term-lts.Joined3 (
-  read-reads.Asked,
-  read-reads.Learnt,
-  copy-term-below t,
-  copy-term.Post,
-  then-under-reads.Asked,
-  then-under-reads.Learnt,
-  follow-reads.Asked,
-  follow-reads.Learnt,
-  push-occurrence-reads.Asked,
-  push-occurrence-reads.Learnt,
-  renamed-reads.Asked,
-  renamed-reads.Learnt,
-  push-reads.Asked,
-  push-reads.Learnt,
-  copy-args-below t,
-  copy-args.Post,
-  then-over-reads.Asked,
-  then-over-reads.Learnt,
-) (copy-term-at t) copy-term.Post)
+headed : (t : ℕ) (c : copy-term-lts.Joined3 (read-reads.Asked, read-reads.Learnt, copy-term-below t, copy-term.Post, then-under-reads.Asked, then-under-reads.Learnt, follow-reads.Asked, follow-reads.Learnt, push-occurrence-reads.Asked, push-occurrence-reads.Learnt, renamed-reads.Asked, renamed-reads.Learnt, push-reads.Asked, push-reads.Learnt, copy-args-below t, copy-args.Post, then-over-reads.Asked, then-over-reads.Learnt) (copy-term-at t) copy-term.Post)
     → Headed (mapOf false (c .before .before .before .before .before .before .before .before .before .args .map)) (c .before .before .before .before .before .before .before .before .before .args .depth) (c .before .before .before .before .before .before .read .result) (c .if3 .head)
 headed t c = ⊎-elim (λ w. search head-named) (λ w. search head-kept) (c .if3 .came)
 
