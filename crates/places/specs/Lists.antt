@@ -1,13 +1,13 @@
 -- Lists in the table, cell by cell: what reading them asks.
 use Prim.Native.Nat.{ℕ, _+_, _*_, _<_, _≤_}
 use mathlib.Core.Path.{_≡_}
-use mathlib.Core.List.{List, _∷_, map}
+use mathlib.Core.List.{List, map}
 use native.Mathlib.Omega.{arith}
 use lib.ListN.{length}
 use Rattle.table.specs.declared.Record.{Record}
 use Rattle.table.specs.Reading.{IsRecord}
 use Rattle.rules.specs.Words.{NONE, fieldA, fieldB, elements}
-use Rattle.laws.specs.Lists.{size, size-real, size-below, Listed, listed-rest, elements-cell}
+use Rattle.laws.specs.Lists.{size, size-real, size-below, Listed, listed-rest}
 
 -- what reading a cell, its element and its rest asks
 module _ (ws : List ℕ) (l : ℕ) where
@@ -33,12 +33,6 @@ module _ (ws : List ℕ) (l : ℕ) where
 pub record Counts (ws : List ℕ) (l : ℕ) : Type 0 where
   pub list : Listed ws l
   pub few : length (elements ws l) ≤ 16
-
-module _ (ws : List ℕ) (l : ℕ) where
-  pub counts-rest : (w : Record) → (l ≡ NONE → ⊥) → IsRecord ws l w → Counts ws l → Counts ws (w .b)
-  counts-rest w n e h =
-      let c : length (fieldA ws l ∷ elements ws (fieldB ws l)) ≤ 16 = rw (elements-cell ws l n (h .list)) at (h .few) in
-      record { list = to-rest ws l w n e (h .list); few = rw (e .b-is) (omega arith) }
 
 -- the variable numbers of a list of bare variables
 abbrev pub varsOf : List ℕ → ℕ → List ℕ
