@@ -1,12 +1,19 @@
-// Terms written anew, as copying and showing share it: where a variable is led that has a place. The laws of one level serve the walk too.
+// Terms written anew, as the walk, copying and showing share it: where a variable is led that has a place, and lambdas after a body.
 use places::Map;
+use store::Walked;
+use store::then_under;
+use table::LA;
 use table::Variable;
 ghost use mathlib.Core.Path.{_≡_};
+ghost use Prim.Native.Nat.{_*_, _≤_};
+ghost use lib.ListN.{length};
 ghost use mathlib.Core.Bool.{false};
 ghost use Rattle.rules.specs.declared.Found.the-variants.{At};
 ghost use Rattle.rules.specs.Map.{placeOf};
 ghost use Rattle.places.specs.Maps.{mapOf};
+ghost use Rattle.store.specs.Said.{Since};
 ghost use Rattle.rewrite.specs.Renamed.{Renaming};
+ghost use Rattle.rewrite.specs.Lambdas.{Under};
 
 // Where a variable that has a place is led; variables bound inside stay.
 pub fn renamed(map: Map, depth: u32, v: Variable) -> u32
@@ -18,4 +25,18 @@ pub fn renamed(map: Map, depth: u32, v: Variable) -> u32
     }
     let position = (v.0 - depth) as usize;
     map.places[position] + depth
+}
+
+// The records of k lambdas, the innermost first, after the body that was written, or the failure.
+pub fn then_lambdas(table: &mut [u32], n: u32, room: u32, k: u32, body: Walked) -> Walked
+    requires { ⌜ (4 * room ≤ length (now table)) × Since n body ⌝ }
+    ensures { λ r. ⌜ Under n room k (now (table .entry)) body (now (table .exit)) r ⌝ }
+{
+    let mut walked = body;
+    let mut left = k;
+    while left != 0 {
+        walked = then_under(table, n, room, LA, 0, walked);
+        left -= 1;
+    }
+    walked
 }
