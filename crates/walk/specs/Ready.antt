@@ -1,13 +1,11 @@
 -- What the walk of a term asks, and that it still holds where the code goes on.
 use Prim.Native.Nat.{ℕ, suc, _+_, _*_, _<_, _≤_}
-use mathlib.Core.Path.{_≡_, refl, sym, _∙_}
+use mathlib.Core.Path.{_≡_, sym, _∙_}
 use mathlib.Core.List.{List}
 use native.Mathlib.Omega.{arith}
 use native.Mathlib.Decide.{ℕ-discrete}
 use lib.ListN.{length, getD, length-map}
 use lib.Dec.{eqb}
-use mir.Syntax.{w32}
-use mir.Val.{Fits}
 use borrow.Author.Tests.{ne-eqb}
 use Rattle.store.specs.declared.Walked.{Walked}
 use Rattle.table.specs.declared.Record.{Record}
@@ -21,7 +19,7 @@ use Rattle.invariants.specs.Places.{Low, followed}
 use Rattle.invariants.specs.Rise.{reach, raised, raised-first, raised-on, Rises, rises}
 use Rattle.invariants.specs.Keep.{highest}
 use Rattle.promise.specs.WalkKnown.{WalkKnown, WalkAllKnown, walk-body, walk-constant, walk-variable, walk-arity, walk-solution}
-use Rattle.store.specs.Said.{store, Then, over, under}
+use Rattle.store.specs.Said.{store, Then, over}
 use Rattle.places.specs.Maps.{Whole}
 use Rattle.places.specs.Looking.{Looks}
 use Rattle.places.specs.Lists.{Counts, varsOf}
@@ -29,7 +27,7 @@ use Rattle.places.specs.Follow.{Followed}
 use Rattle.narrow.specs.Narrowing.{Narrowing}
 use Rattle.rewrite.specs.Levels.{Headed, of-constant}
 use Rattle.rewrite.specs.Parts.{term-read, body-at, args-at, size-args, few-at, counts-at, hole-held, narrows}
-use Rattle.walk.specs.Walks.{mapAt, WalksT, WalksL, WalksH, walk-lambda, walk-rigid, walk-hole, hole-hops}
+use Rattle.walk.specs.Walks.{mapAt, WalksT, WalksL, WalksH, walk-rigid, walk-hole, hole-hops}
 
 -- what every walk asks, at a measure k
 pub record On (R n u : ℕ) (m : Map) (home : ℕ → ℕ) (ws ss : List ℕ) (used F d k : ℕ) : Type 0 where
@@ -46,6 +44,11 @@ pub record ReadyT (R n u : ℕ) (m : Map) (ws ss : List ℕ) (used F d r : ℕ) 
   pub on : On R n u m home ws ss used F d (suc r)
   pub known : WalkKnown R (store ws ss used) r
 
+-- a term that is no lambda
+pub record ReadyB (R n u : ℕ) (m : Map) (ws ss : List ℕ) (used F d r : ℕ) : Type 0 where
+  pub on : ReadyT R n u m ws ss used F d r
+  pub plain : tag ws r ≡ 6 → ⊥
+
 pub record ReadyL (R n u : ℕ) (m : Map) (ws ss : List ℕ) (used F d l : ℕ) : Type 0 where
   pub home : ℕ → ℕ
   pub is : Args ws home F used l
@@ -60,34 +63,23 @@ pub record ReadyH (R n u : ℕ) (m : Map) (ws ss : List ℕ) (used F d r : ℕ) 
 pub on-part : {R n u : ℕ} {m : Map} {home : ℕ → ℕ} {ws ss : List ℕ} {used F d k : ℕ} (d₁ k₁ : ℕ) → On R n u m home ws ss used F d k → d₁ + k₁ ≤ d + k → On R n u m home ws ss used F d₁ k₁
 on-part d₁ k₁ o h = let f = o .fits in record { fine = o .fine; hole = o .hole; whole = o .whole; top = o .top; low = o .low; fits = omega arith }
 
-pub fall-hole : (R F r t : ℕ) → reach R F (suc r) ≡ t → reach R F r < t
+-- the cycle's measure is twice the reach, and one more at a term whose lambdas are not yet taken off
+pub fall-hole : (R F r t : ℕ) → 2 * reach R F (suc r) ≡ t → 2 * reach R F r < t
 fall-hole R F r t z = omega arith
 
 module _ {R n u : ℕ} {m : Map} {ws ss : List ℕ} {used F d r : ℕ} where
   pub to-read : ReadyT R n u m ws ss used F d r → 4 * r + 3 < length ws
   to-read h = term-read R n (h .home) ws ss used F r (h .on .fine) (h .is)
 
-  pub to-look : ReadyT R n u m ws ss used F d r → Looks (eqb F 0) m d
-  to-look h = let f = h .on .fits in record { top = h .on .top; whole = h .on .whole; low = h .on .low; fits = omega arith }
-
-  pub to-depth : ReadyT R n u m ws ss used F d r → Fits w32 (d + 1)
-  to-depth h = let f = h .on .fits in record { fits = omega arith }
-
-  pub to-push : ReadyT R n u m ws ss used F d r → 4 * R ≤ length ws
-  to-push h = h .on .fine .room
-
-  pub to-since : ReadyT R n u m ws ss used F d r → n ≤ used
-  to-since h = h .on .fine .since
-
-  pub to-then : (ws₁ : List ℕ) → ReadyT R n u m ws ss used F d r → length ws₁ ≡ length ws → 4 * R ≤ length ws₁
-  to-then ws₁ h e = let c = h .on .fine .room in omega arith
+  look : ReadyT R n u m ws ss used F d r → Looks (eqb F 0) m d
+  look h = let f = h .on .fits in record { top = h .on .top; whole = h .on .whole; low = h .on .low; fits = omega arith }
 
   -- the body of a lambda
   body : (w : Record) → IsRecord ws r w → w .tag ≡ 6 → (h : ReadyT R n u m ws ss used F d r) → Sub ws (h .home) F r (w .a)
   body w e t h = body-at R n (h .home) ws ss used F r (h .on .fine) (h .is) w e t
 
-  pub fall-body : (w : Record) (t : ℕ) → reach R F (suc r) ≡ t → IsRecord ws r w → w .tag ≡ 6 → ReadyT R n u m ws ss used F d r → reach R F (suc (w .a)) < t
-  fall-body w t z e k h = let b = body w e k h .below in omega arith
+  pub body-less : (w : Record) → IsRecord ws r w → w .tag ≡ 6 → ReadyT R n u m ws ss used F d r → w .a < r
+  body-less w e k h = body w e k h .below
 
   pub to-body : (w : Record) → IsRecord ws r w → w .tag ≡ 6 → ReadyT R n u m ws ss used F d r → ReadyT R n u m ws ss used F (d + 1) (w .a)
   to-body w e k h =
@@ -101,61 +93,77 @@ module _ {R n u : ℕ} {m : Map} {ws ss : List ℕ} {used F d r : ℕ} where
         known = rw (e .a-is) (walk-body (h .known) (sym (e .tag-is) ∙ k));
       }
 
-  pub walked-lambda : (w : Record) (ws₁ ss₁ : List ℕ) (x : Walked) (ws₂ : List ℕ) (y : Walked) → IsRecord ws r w → w .tag ≡ 6 → ReadyT R n u m ws ss used F d r
-      → WalksT R n u m ws ss used F (d + 1) (w .a) ws₁ ss₁ x → Then n (under R 6 0) ws₁ x ws₂ y → WalksT R n u m ws ss used F d r ws₂ ss₁ y
-  walked-lambda w ws₁ ss₁ x ws₂ y e t h p q = walk-lambda R n u m ws ss used F d r w e ws₁ ss₁ x ws₂ y t (fall-body w _ refl e t h) p q
+  -- a term that is no lambda
+  pub to-read-b : ReadyB R n u m ws ss used F d r → 4 * r + 3 < length ws
+  to-read-b h = to-read (h .on)
+
+  pub to-look : ReadyB R n u m ws ss used F d r → Looks (eqb F 0) m d
+  to-look h = look (h .on)
+
+  pub to-push : ReadyB R n u m ws ss used F d r → 4 * R ≤ length ws
+  to-push h = h .on .on .fine .room
+
+  pub to-since : ReadyB R n u m ws ss used F d r → n ≤ used
+  to-since h = h .on .on .fine .since
+
+  pub to-then : (ws₁ : List ℕ) → ReadyB R n u m ws ss used F d r → length ws₁ ≡ length ws → 4 * R ≤ length ws₁
+  to-then ws₁ h e = let c = h .on .on .fine .room in omega arith
 
   -- an occurrence
-  pub to-hole : (w : Record) → IsRecord ws r w → w .tag ≡ 9 → ReadyT R n u m ws ss used F d r → ReadyH R n u m ws ss used F d r
-  to-hole w e t h = record { on = h; occ = sym (e .tag-is) ∙ t }
+  pub to-hole : (w : Record) → IsRecord ws r w → w .tag ≡ 9 → ReadyB R n u m ws ss used F d r → ReadyH R n u m ws ss used F d r
+  to-hole w e t h = record { on = h .on; occ = sym (e .tag-is) ∙ t }
 
   pub walked-hole : (w : Record) (ws₁ ss₁ : List ℕ) (x : Walked) → IsRecord ws r w → w .tag ≡ 9 → WalksH R n u m ws ss used F d r ws₁ ss₁ x → WalksT R n u m ws ss used F d r ws₁ ss₁ x
   walked-hole w ws₁ ss₁ x e t p = walk-hole R n u m ws ss used F d r ws₁ ss₁ x (sym (e .tag-is) ∙ t) p
 
   -- a rigid head
-  module _ (w : Record) (e : IsRecord ws r w) (a : w .tag ≡ 6 → ⊥) (b : w .tag ≡ 9 → ⊥) (h : ReadyT R n u m ws ss used F d r) where
+  module _ (w : Record) (e : IsRecord ws r w) (b : w .tag ≡ 9 → ⊥) (h : ReadyB R n u m ws ss used F d r) where
+    a : w .tag ≡ 6 → ⊥
+    a q = h .plain (sym (e .tag-is) ∙ q)
+
     pub head-kept : (x : ℕ) → (w .tag ≡ 8 → ⊥) → x ≡ w .a → Headed (mapAt F m) d w x
-    head-kept x c q = let lo = h .is .term .low in let hi = h .is .term .high in let z = e .tag-is in of-constant (omega arith) (sym q)
+    head-kept x c q = let p = h .plain in let lo = h .on .is .term .low in let hi = h .on .is .term .high in let z = e .tag-is in of-constant (omega arith) (sym q)
 
     args : size (w .b) ≤ r
-    args = size-args R n (h .home) ws ss used F r (h .on .fine) (h .is) w e a
+    args = size-args R n (h .on .home) ws ss used F r (h .on .on .fine) (h .on .is) w e a
 
-    pub fall-args : (t : ℕ) → reach R F (suc r) ≡ t → reach R F (size (w .b)) < t
+    pub fall-args : (t : ℕ) → 2 * reach R F (suc r) ≡ t → 2 * reach R F (size (w .b)) < t
     fall-args t z = let s = args in omega arith
 
     knows : WalkAllKnown R (store ws ss used) (w .b)
     knows = rw (e .b-is) (go (ℕ-discrete (tag ws r) 7))
       where
         go : Dec (tag ws r ≡ 7) → WalkAllKnown R (store ws ss used) (fieldB ws r)
-        go (yes t) = walk-constant (h .known) t
+        go (yes t) = walk-constant (h .on .known) t
         go (no t) =
-            let lo = h .is .term .low in
-            let hi = h .is .term .high in
+            let lo = h .on .is .term .low in
+            let hi = h .on .is .term .high in
             let z = e .tag-is in
-            walk-variable (h .known) (omega arith)
+            let p = h .plain in
+            walk-variable (h .on .known) (omega arith)
 
     pub to-args : ReadyL R n u m ws ss used F d (w .b)
     to-args =
         let s = args in
-        let i = h .is .below in
+        let i = h .on .is .below in
         record {
-          home = h .home;
-          is = args-less ws (h .home) F F r used (w .b) (args-at R n (h .home) ws ss used F r (h .on .fine) (h .is) w e a) (omega arith) (omega arith);
-          few = few-at R n (h .home) ws ss used F r (h .on .fine) (h .is) w e a;
-          on = on-part d (size (w .b)) (h .on) (omega arith);
+          home = h .on .home;
+          is = args-less ws (h .on .home) F F r used (w .b) (args-at R n (h .on .home) ws ss used F r (h .on .on .fine) (h .on .is) w e a) (omega arith) (omega arith);
+          few = few-at R n (h .on .home) ws ss used F r (h .on .on .fine) (h .on .is) w e a;
+          on = on-part d (size (w .b)) (h .on .on) (omega arith);
           known = knows;
         }
 
     pub walked-rigid : (v : ℕ) (ws₁ ss₁ : List ℕ) (x : Walked) (ws₂ : List ℕ) (y : Walked) → Headed (mapAt F m) d w v
         → WalksL R n u m ws ss used F d (w .b) ws₁ ss₁ x → Then n (over R (w .tag) v) ws₁ x ws₂ y → WalksT R n u m ws ss used F d r ws₂ ss₁ y
-    walked-rigid v ws₁ ss₁ x ws₂ y t p q = walk-rigid R n u m ws ss used F d r w e v ws₁ ss₁ x ws₂ y t (fall-args _ refl) p q
+    walked-rigid v ws₁ ss₁ x ws₂ y t p q = walk-rigid R n u m ws ss used F d r w e v ws₁ ss₁ x ws₂ y t (let s = args in omega arith) p q
 
   -- an occurrence
   pub to-read-h : ReadyH R n u m ws ss used F d r → 4 * r + 3 < length ws
   to-read-h h = to-read (h .on)
 
   pub to-looks-h : ReadyH R n u m ws ss used F d r → Looks (eqb F 0) m d
-  to-looks-h h = to-look (h .on)
+  to-looks-h h = look (h .on)
 
   pub to-counts : (w : Record) → IsRecord ws r w → ReadyH R n u m ws ss used F d r → Counts ws (w .b)
   to-counts w e h = counts-at R n (h .on .home) ws ss used F r (h .on .on .fine) (h .on .is) w e (h .occ)
@@ -179,7 +187,7 @@ module _ {R n u : ℕ} {m : Map} {ws ss : List ℕ} {used F d r : ℕ} where
       let st₁ : getD ss (fieldA ws r) NONE ≡ t = rw (← e .a-is) st in
       rw (g, st₁) at (rises R n (h .on .home) (store ws ss used) F r (h .on .on .fine) (h .on .is .below) (h .occ) (h .on .is .up) (λ q. z (sym st₁ ∙ q)))
 
-  pub fall-hop : (w : Record) (t G k : ℕ) → reach R F r ≡ k → IsRecord ws r w → getD ss (w .a) NONE ≡ t → (t ≡ NONE → ⊥) → raised n F r ≡ G → ReadyH R n u m ws ss used F d r → reach R G (suc t) < k
+  pub fall-hop : (w : Record) (t G k : ℕ) → 2 * reach R F r ≡ k → IsRecord ws r w → getD ss (w .a) NONE ≡ t → (t ≡ NONE → ⊥) → raised n F r ≡ G → ReadyH R n u m ws ss used F d r → 2 * reach R G (suc t) + 1 < k
   fall-hop w t G k y e st z g h = let a = risen w t G e st z g h .falls in omega arith
 
   -- the floor there is no 0

@@ -16,7 +16,7 @@ use Rattle.table.specs.declared.Record.{Record}
 use Rattle.table.specs.Reading.{IsRecord}
 use Rattle.places.specs.declared.Map.{Map}
 use Rattle.rules.specs.Words.{NONE, tag, fieldA, fieldB, elements, arguments, variables}
-use Rattle.rules.specs.Store.{fail, push, solved, solution}
+use Rattle.rules.specs.Store.{Out, _>>=_, fail, push, solved, solution}
 use Rattle.rules.specs.Map.{Map as Pairs, placeOf, follow}
 use Rattle.rules.specs.Rewrite.{writeAll, writeTerm}
 use Rattle.rules.specs.Walk.{keepPlaced, walkHole, walk}
@@ -32,9 +32,13 @@ use Rattle.rewrite.specs.Levels.{fuel, Headed, level-lambda, level-rigid, level
 abbrev pub mapAt : ℕ → Map → Pairs
 mapAt F m = mapOf (eqb F 0) m
 
+-- with fuel enough, the walk of a term is this
+abbrev pub Gives : ℕ → ℕ → Map → List ℕ → List ℕ → ℕ → ℕ → ℕ → ℕ → Out ℕ → Type 0
+Gives R u m ws ss used F d r o = (f : ℕ) → reach R F (suc r) < f → walk f R u (mapAt F m) d r (store ws ss used) ≡ o
+
 -- with fuel enough, the walk of a term, of a list and of an occurrence answers so
 pub record WalksT (R n u : ℕ) (m : Map) (ws ss : List ℕ) (used F d r : ℕ) (ws₁ ss₁ : List ℕ) (x : Walked) : Type 0 where
-  pub run : (f : ℕ) → reach R F (suc r) < f → walk f R u (mapAt F m) d r (store ws ss used) ≡ shown ws₁ ss₁ x
+  pub run : Gives R u m ws ss used F d r (shown ws₁ ss₁ x)
   pub grown : Since n x
 
 pub record WalksL (R n u : ℕ) (m : Map) (ws ss : List ℕ) (used F d l : ℕ) (ws₁ ss₁ : List ℕ) (x : Walked) : Type 0 where
@@ -53,10 +57,12 @@ module _ (R n u : ℕ) (m : Map) (ws ss : List ℕ) (used F d r : ℕ) where
   more ws₁ ss₁ x g h = record { run = λ f hf. let q = fuel f _ hf in rw (q .1) (h (q .0) (q .2)); grown = g }
 
   module _ (w : Record) (e : IsRecord ws r w) where
-    pub walk-lambda : (ws₁ ss₁ : List ℕ) (x : Walked) (ws₂ : List ℕ) (y : Walked) → w .tag ≡ 6 → reach R F (suc (w .a)) < reach R F (suc r)
-        → WalksT R n u m ws ss used F (d + 1) (w .a) ws₁ ss₁ x → Then n (under R 6 0) ws₁ x ws₂ y → WalksT R n u m ws ss used F d r ws₂ ss₁ y
-    walk-lambda ws₁ ss₁ x ws₂ y t lt h p =
-        more _ _ _ (p .grown) λ k hk. level-lambda (walkHole (walk k R u) R u) (walk k R u) R ws (mapAt F m) d r (store ws ss used) w e t ∙ rw (h .run k (omega arith)) (p .run ss₁)
+    -- whatever the body answers, the lambda is written after it
+    pub walk-lambda : (o : Out ℕ) → w .tag ≡ 6 → reach R F (suc (w .a)) < reach R F (suc r) → Gives R u m ws ss used F (d + 1) (w .a) o → Gives R u m ws ss used F d r (o >>= under R 6 0)
+    unfolding walk
+    walk-lambda o t lt h f hf =
+        let q = fuel f _ hf in
+        rw (q .1) (level-lambda (walkHole (walk (q .0) R u) R u) (walk (q .0) R u) R ws (mapAt F m) d r (store ws ss used) w e t ∙ rw (h (q .0) (let z = q .2 in omega arith)))
 
     pub walk-rigid : (v : ℕ) (ws₁ ss₁ : List ℕ) (x : Walked) (ws₂ : List ℕ) (y : Walked) → Headed (mapAt F m) d w v → reach R F (size (w .b)) < reach R F (suc r)
         → WalksL R n u m ws ss used F d (w .b) ws₁ ss₁ x → Then n (over R (w .tag) v) ws₁ x ws₂ y → WalksT R n u m ws ss used F d r ws₂ ss₁ y

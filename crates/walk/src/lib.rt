@@ -5,13 +5,13 @@ use places::Map;
 use places::arguments;
 use places::follow;
 use places::place_of;
+use rewrite::then_lambdas;
 use rules::Failure;
 use rules::Found;
 use store::Walked;
 use store::push;
 use store::solution_of;
 use store::then_over;
-use store::then_under;
 use table::HA;
 use table::Hole;
 use table::LA;
@@ -26,7 +26,7 @@ ghost use Rattle.rules.specs.Walk.{assign as assignOf};
 ghost use Rattle.store.specs.Said.{Does²};
 ghost use Rattle.walk.specs.Walks.{WalksT, WalksL, WalksH};
 ghost use Rattle.invariants.specs.Rise.{raised};
-ghost use Rattle.walk.specs.Ready.{ReadyT, ReadyL, ReadyH};
+ghost use Rattle.walk.specs.Ready.{ReadyT, ReadyB, ReadyL, ReadyH};
 ghost use Rattle.walk.specs.Assign.{Assigning, Records};
 
 // What the parts of a walk share: records are written from n on, up to `room`; this hole is solved; the floor is 0 on the side of a pair,
@@ -50,7 +50,7 @@ fn raise(n: u32, floor: u32, at: u32) -> u32
     at + 1
 }
 
-// The walk of a term: a head is looked at before its arguments; a variable without a place escapes.
+// The walk of a term: of the body below its lambdas, and then the lambdas.
 fn walk_term(
     table: &mut [u32],
     solutions: &mut [u32],
@@ -63,11 +63,32 @@ fn walk_term(
     requires { ⌜ ReadyT (task .room) (task .n) (task .hole .0) map (now table) (now solutions) used (task .floor) depth at ⌝ }
     ensures { λ r. ⌜ WalksT (task .room) (task .n) (task .hole .0) map (now (table .entry)) (now (solutions .entry)) used (task .floor) depth at (now (table .exit)) (now (solutions .exit)) r ⌝ }
 {
-    let rec = read(table, at);
-    if rec.tag == LA {
-        let body = walk_term(table, solutions, task, used, map, depth + 1, rec.a);
-        return then_under(table, task.n, task.room, LA, 0, body);
+    let mut inner = depth;
+    let mut term = at;
+    let mut rec = read(table, at);
+    while rec.tag == LA {
+        inner += 1;
+        term = rec.a;
+        rec = read(table, term);
     }
+    let body = walk_body(table, solutions, task, used, map, inner, term);
+    then_lambdas(table, task.n, task.room, inner - depth, body)
+}
+
+// The walk of a term that is no lambda: a head is looked at before its arguments; a variable without a place escapes.
+fn walk_body(
+    table: &mut [u32],
+    solutions: &mut [u32],
+    task: Task,
+    used: u32,
+    map: Map,
+    depth: u32,
+    at: u32,
+) -> Walked
+    requires { ⌜ ReadyB (task .room) (task .n) (task .hole .0) map (now table) (now solutions) used (task .floor) depth at ⌝ }
+    ensures { λ r. ⌜ WalksT (task .room) (task .n) (task .hole .0) map (now (table .entry)) (now (solutions .entry)) used (task .floor) depth at (now (table .exit)) (now (solutions .exit)) r ⌝ }
+{
+    let rec = read(table, at);
     if rec.tag == HA {
         return walk_hole(table, solutions, task, used, map, depth, at);
     }
