@@ -9,7 +9,7 @@ use Rattle.places.specs.declared.Map.{Map}
 use Rattle.table.specs.declared.Record.{Record}
 use Rattle.table.specs.Reading.{IsRecord}
 use Rattle.rules.specs.Words.{NONE, tag, fieldB, elements, arguments, variables}
-use Rattle.rules.specs.Store.{push, pushOccurrence}
+use Rattle.rules.specs.Store.{Out, _>>=_, push, pushOccurrence}
 use Rattle.rules.specs.Map.{follow}
 use Rattle.rules.specs.Rewrite.{writeAll, writeTerm, keepHole, copy}
 use Rattle.laws.specs.Lists.{size}
@@ -18,6 +18,10 @@ use Rattle.places.specs.Maps.{mapOf, side}
 use Rattle.places.specs.Lists.{varsOf}
 use Rattle.places.specs.Follow.{Followed}
 use Rattle.rewrite.specs.Levels.{fuel, Headed, level-lambda, level-rigid, level-leaf, level-hole}
+
+-- with fuel enough, the copy of a term is this
+abbrev pub Gives : ℕ → Map → List ℕ → List ℕ → ℕ → ℕ → ℕ → Out ℕ → Type 0
+Gives R m ws ss used d r o = (f : ℕ) → suc r < f → copy f R (mapOf false m) d r (store ws ss used) ≡ o
 
 -- with fuel enough, the copy of a term and of a list answers so, whatever the solutions are
 pub record CopiesT (R n : ℕ) (m : Map) (ws : List ℕ) (used d r : ℕ) (ws₁ : List ℕ) (x : Walked) : Type 0 where
@@ -35,10 +39,12 @@ module _ (R n : ℕ) (m : Map) (ws : List ℕ) (used d r : ℕ) where
   more ws₁ x g h = record { run = λ f hf ss. let q = fuel f _ hf in rw (q .1) (h (q .0) (q .2) ss); grown = g }
 
   module _ (w : Record) (e : IsRecord ws r w) where
-    pub copy-lambda : (ws₁ : List ℕ) (x : Walked) (ws₂ : List ℕ) (y : Walked) → w .tag ≡ 6 → w .a < r
-        → CopiesT R n m ws used (d + 1) (w .a) ws₁ x → Then n (under R 6 0) ws₁ x ws₂ y → CopiesT R n m ws used d r ws₂ y
-    copy-lambda ws₁ x ws₂ y t lt h p =
-        more _ _ (p .grown) λ k hk ss. level-lambda (keepHole R) (copy k R) R ws (mapOf false m) d r (store ws ss used) w e t ∙ rw (h .run k (omega arith) ss) (p .run ss)
+    -- whatever the copy of the body is, the lambda is written after it
+    pub copy-lambda : (ss : List ℕ) (o : Out ℕ) → w .tag ≡ 6 → w .a < r → Gives R m ws ss used (d + 1) (w .a) o → Gives R m ws ss used d r (o >>= under R 6 0)
+    unfolding copy
+    copy-lambda ss o t lt h f hf =
+        let q = fuel f _ hf in
+        rw (q .1) (level-lambda (keepHole R) (copy (q .0) R) R ws (mapOf false m) d r (store ws ss used) w e t ∙ rw (h (q .0) (let z = q .2 in omega arith)))
 
     pub copy-rigid : (v : ℕ) (ws₁ : List ℕ) (x : Walked) (ws₂ : List ℕ) (y : Walked) → Headed (mapOf false m) d w v → size (w .b) ≤ r
         → CopiesL R n m ws used d (w .b) ws₁ x → Then n (over R (w .tag) v) ws₁ x ws₂ y → CopiesT R n m ws used d r ws₂ y

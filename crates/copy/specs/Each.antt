@@ -78,7 +78,7 @@ module _ (R n : ℕ) (m : Map) (ws₀ : List ℕ) (used₀ d l₀ : ℕ) where
         is-cell : elements ws l ≡ w .a ∷ elements ws (w .b)
         is-cell = let r = h .ready in list-is R n (r .home) ws (r .ss) used 0 l (r .on .fine) (r .is) ne w e
 
-        pub turn-falls : (t : ℕ) → size l₀ ≡ t → suc (w .a) < t
+        pub turn-falls : (t : ℕ) → 2 * size l₀ ≡ t → 2 * suc (w .a) + 1 < t
         turn-falls t z = let a = lower .0 in let b = h .less in omega arith
 
         pub turn-less : size (w .b) < size l

@@ -6,8 +6,6 @@ use mathlib.Core.Bool.{false}
 use native.Mathlib.Omega.{arith}
 use native.Mathlib.Decide.{ℕ-discrete}
 use lib.ListN.{length}
-use mir.Syntax.{w32}
-use mir.Val.{Fits}
 use Rattle.store.specs.declared.Walked.{Walked}
 use Rattle.places.specs.declared.Map.{Map}
 use Rattle.table.specs.declared.Record.{Record}
@@ -19,7 +17,7 @@ use Rattle.invariants.specs.Floor.{Sub, Args, Fine, limit}
 use Rattle.invariants.specs.Grow.{sub-less, args-less}
 use Rattle.invariants.specs.Places.{Low}
 use Rattle.promise.specs.CopyKnown.{CopyKnown, CopyAllKnown, copy-body, copy-constant, copy-variable}
-use Rattle.store.specs.Said.{store, Does, Then, over, under}
+use Rattle.store.specs.Said.{store, Does, Then, over}
 use Rattle.places.specs.Maps.{mapOf, Whole, side}
 use Rattle.places.specs.Looking.{Looks}
 use Rattle.places.specs.Lists.{Counts}
@@ -27,7 +25,7 @@ use Rattle.places.specs.Follow.{Followed}
 use Rattle.narrow.specs.Writing.{Writing}
 use Rattle.rewrite.specs.Levels.{Headed, of-constant}
 use Rattle.rewrite.specs.Parts.{term-read, body-at, args-at, size-args, counts-at, few-at}
-use Rattle.copy.specs.Copies.{CopiesT, CopiesL, copy-lambda, copy-rigid, copy-leaf, copy-hole}
+use Rattle.copy.specs.Copies.{CopiesT, CopiesL, copy-rigid, copy-leaf, copy-hole}
 use Rattle.rewrite.specs.Renamed.{Renaming}
 
 -- what every copy asks, at a measure k
@@ -44,6 +42,11 @@ pub record ReadyT (R n : ℕ) (m : Map) (ws : List ℕ) (used d r : ℕ) : Type 
   pub is : Sub ws home 0 used r
   pub on : On R n m home ws ss used d (suc r)
   pub known : CopyKnown (mapOf false m) R (store ws ss used) d r
+
+-- a term that is no lambda
+pub record ReadyB (R n : ℕ) (m : Map) (ws : List ℕ) (used d r : ℕ) : Type 0 where
+  pub on : ReadyT R n m ws used d r
+  pub plain : tag ws r ≡ 6 → ⊥
 
 pub record ReadyL (R n : ℕ) (m : Map) (ws : List ℕ) (used d l : ℕ) : Type 0 where
   pub home : ℕ → ℕ
@@ -63,23 +66,11 @@ module _ {R n : ℕ} {m : Map} {ws : List ℕ} {used d r : ℕ} where
   looks : ReadyT R n m ws used d r → Looks false m d
   looks h = let f = h .on .fits in let w = h .on .fine .within in let q = h .on .fine .few in record { top = h .on .top; whole = h .on .whole; low = h .on .low; fits = omega arith }
 
-  pub to-depth : ReadyT R n m ws used d r → Fits w32 (d + 1)
-  to-depth h = let f = h .on .fits in let w = h .on .fine .within in let q = h .on .fine .few in record { fits = omega arith }
-
-  pub to-push : ReadyT R n m ws used d r → 4 * R ≤ length ws
-  to-push h = h .on .fine .room
-
-  pub to-since : ReadyT R n m ws used d r → n ≤ used
-  to-since h = h .on .fine .since
-
-  pub to-then : (ws₁ : List ℕ) → ReadyT R n m ws used d r → length ws₁ ≡ length ws → 4 * R ≤ length ws₁
-  to-then ws₁ h e = let c = h .on .fine .room in omega arith
-
   body : (w : Record) → IsRecord ws r w → w .tag ≡ 6 → (h : ReadyT R n m ws used d r) → Sub ws (h .home) 0 r (w .a)
   body w e t h = body-at R n (h .home) ws (h .ss) used 0 r (h .on .fine) (h .is) w e t
 
-  pub fall-body : (w : Record) (t : ℕ) → suc r ≡ t → IsRecord ws r w → w .tag ≡ 6 → ReadyT R n m ws used d r → suc (w .a) < t
-  fall-body w t z e k h = let b = body w e k h .below in omega arith
+  pub body-less : (w : Record) → IsRecord ws r w → w .tag ≡ 6 → ReadyT R n m ws used d r → w .a < r
+  body-less w e k h = body w e k h .below
 
   pub to-body : (w : Record) → IsRecord ws r w → w .tag ≡ 6 → ReadyT R n m ws used d r → ReadyT R n m ws used (d + 1) (w .a)
   to-body w e k h =
@@ -94,68 +85,82 @@ module _ {R n : ℕ} {m : Map} {ws : List ℕ} {used d r : ℕ} where
         known = rw (e .a-is) (copy-body (h .known) (sym (e .tag-is) ∙ k));
       }
 
-  pub copied-lambda : (w : Record) (ws₁ : List ℕ) (x : Walked) (ws₂ : List ℕ) (y : Walked) → IsRecord ws r w → w .tag ≡ 6 → ReadyT R n m ws used d r
-      → CopiesT R n m ws used (d + 1) (w .a) ws₁ x → Then n (under R 6 0) ws₁ x ws₂ y → CopiesT R n m ws used d r ws₂ y
-  copied-lambda w ws₁ x ws₂ y e t h p q = copy-lambda R n m ws used d r w e ws₁ x ws₂ y t (body w e t h .below) p q
+  -- a term that is no lambda
+  pub to-read-b : ReadyB R n m ws used d r → 4 * r + 3 < length ws
+  to-read-b h = to-read (h .on)
+
+  pub to-push : ReadyB R n m ws used d r → 4 * R ≤ length ws
+  to-push h = h .on .on .fine .room
+
+  pub to-since : ReadyB R n m ws used d r → n ≤ used
+  to-since h = h .on .on .fine .since
+
+  pub to-then : (ws₁ : List ℕ) → ReadyB R n m ws used d r → length ws₁ ≡ length ws → 4 * R ≤ length ws₁
+  to-then ws₁ h e = let c = h .on .on .fine .room in omega arith
 
   -- an occurrence
-  module _ (w : Record) (e : IsRecord ws r w) (nine : w .tag ≡ 9) (h : ReadyT R n m ws used d r) where
+  module _ (w : Record) (e : IsRecord ws r w) (nine : w .tag ≡ 9) (h : ReadyB R n m ws used d r) where
     is-nine : tag ws r ≡ 9
     is-nine = sym (e .tag-is) ∙ nine
 
     pub to-counts : Counts ws (w .b)
-    to-counts = counts-at R n (h .home) ws (h .ss) used 0 r (h .on .fine) (h .is) w e is-nine
+    to-counts = counts-at R n (h .on .home) ws (h .on .ss) used 0 r (h .on .on .fine) (h .on .is) w e is-nine
 
     pub to-look : Looks false m d
-    to-look = looks h
+    to-look = looks (h .on)
 
     pub to-write : (next : Map) → Followed ws false m d (w .b) next → Writing ws n used R next
-    to-write next f = record { room = h .on .fine .room; since = h .on .fine .since; whole = f .whole }
+    to-write next f = record { room = h .on .on .fine .room; since = h .on .on .fine .since; whole = f .whole }
 
     pub copied-hole : (next : Map) (ws₁ : List ℕ) (x : Walked) → Followed ws false m d (w .b) next → Does n (pushOccurrence R (w .a) (side false (mapOf false next))) ws used ws₁ x
         → CopiesT R n m ws used d r ws₁ x
     copied-hole next ws₁ x f p = copy-hole R n m ws used d r w e next ws₁ x is-nine f p
 
   -- a rigid head
-  pub to-name : (w : Record) → IsRecord ws r w → w .tag ≡ 8 → ReadyT R n m ws used d r → Renaming m d (w .a)
+  pub to-name : (w : Record) → IsRecord ws r w → w .tag ≡ 8 → ReadyB R n m ws used d r → Renaming m d (w .a)
   to-name w e t h =
-      let p = copy-variable (h .known) (sym (e .tag-is) ∙ t) .0 in
-      record { looks = looks h; to = p .0; has = rw (e .a-is) (p .1) }
+      let p = copy-variable (h .on .known) (sym (e .tag-is) ∙ t) .0 in
+      record { looks = looks (h .on); to = p .0; has = rw (e .a-is) (p .1) }
 
   pub copied-leaf : (w : Record) (v : ℕ) (ws₁ : List ℕ) (x : Walked) → IsRecord ws r w → Headed (mapOf false m) d w v → w .b ≡ NONE → Does n (push R (w .tag) v NONE) ws used ws₁ x → CopiesT R n m ws used d r ws₁ x
   copied-leaf w v ws₁ x e t z p = copy-leaf R n m ws used d r w e v ws₁ x t z p
 
-  module _ (w : Record) (e : IsRecord ws r w) (a : w .tag ≡ 6 → ⊥) (b : w .tag ≡ 9 → ⊥) (h : ReadyT R n m ws used d r) where
+  module _ (w : Record) (e : IsRecord ws r w) (b : w .tag ≡ 9 → ⊥) (h : ReadyB R n m ws used d r) where
+    a : w .tag ≡ 6 → ⊥
+    a q = h .plain (sym (e .tag-is) ∙ q)
+
     pub head-kept : (x : ℕ) → (w .tag ≡ 8 → ⊥) → x ≡ w .a → Headed (mapOf false m) d w x
-    head-kept x c q = let lo = h .is .term .low in let hi = h .is .term .high in let z = e .tag-is in of-constant (omega arith) (sym q)
+    head-kept x c q = let p = h .plain in let lo = h .on .is .term .low in let hi = h .on .is .term .high in let z = e .tag-is in of-constant (omega arith) (sym q)
 
     args : size (w .b) ≤ r
-    args = size-args R n (h .home) ws (h .ss) used 0 r (h .on .fine) (h .is) w e a
+    args = size-args R n (h .on .home) ws (h .on .ss) used 0 r (h .on .on .fine) (h .on .is) w e a
 
-    pub fall-args : (t : ℕ) → suc r ≡ t → size (w .b) < t
+    -- the cycle's measure is twice the number, and one more at a term whose lambdas are not yet taken off
+    pub fall-args : (t : ℕ) → 2 * suc r ≡ t → 2 * size (w .b) < t
     fall-args t z = let s = args in omega arith
 
-    knows : CopyAllKnown (mapOf false m) R (store ws (h .ss) used) d (w .b)
+    knows : CopyAllKnown (mapOf false m) R (store ws (h .on .ss) used) d (w .b)
     knows = rw (e .b-is) (go (ℕ-discrete (tag ws r) 7))
       where
-        go : Dec (tag ws r ≡ 7) → CopyAllKnown (mapOf false m) R (store ws (h .ss) used) d (fieldB ws r)
-        go (yes t) = copy-constant (h .known) t
+        go : Dec (tag ws r ≡ 7) → CopyAllKnown (mapOf false m) R (store ws (h .on .ss) used) d (fieldB ws r)
+        go (yes t) = copy-constant (h .on .known) t
         go (no t) =
-            let lo = h .is .term .low in
-            let hi = h .is .term .high in
+            let lo = h .on .is .term .low in
+            let hi = h .on .is .term .high in
             let z = e .tag-is in
-            copy-variable (h .known) (omega arith) .1
+            let p = h .plain in
+            copy-variable (h .on .known) (omega arith) .1
 
     pub to-args : ReadyL R n m ws used d (w .b)
     to-args =
         let s = args in
-        let i = h .is .below in
+        let i = h .on .is .below in
         record {
-          home = h .home;
-          ss = h .ss;
-          is = args-less ws (h .home) 0 0 r used (w .b) (args-at R n (h .home) ws (h .ss) used 0 r (h .on .fine) (h .is) w e a) (omega arith) (omega arith);
-          few = few-at R n (h .home) ws (h .ss) used 0 r (h .on .fine) (h .is) w e a;
-          on = on-part d (size (w .b)) (h .on) (omega arith);
+          home = h .on .home;
+          ss = h .on .ss;
+          is = args-less ws (h .on .home) 0 0 r used (w .b) (args-at R n (h .on .home) ws (h .on .ss) used 0 r (h .on .on .fine) (h .on .is) w e a) (omega arith) (omega arith);
+          few = few-at R n (h .on .home) ws (h .on .ss) used 0 r (h .on .on .fine) (h .on .is) w e a;
+          on = on-part d (size (w .b)) (h .on .on) (omega arith);
           known = knows;
         }
 

@@ -5,11 +5,11 @@ use places::Map;
 use places::arguments;
 use places::follow;
 use rewrite::renamed;
+use rewrite::then_lambdas;
 use store::Walked;
 use store::push;
 use store::solution_of;
 use store::then_over;
-use store::then_under;
 use table::HA;
 use table::Hole;
 use table::LA;
@@ -20,11 +20,11 @@ use table::read;
 ghost use mathlib.Core.Path.{_≡_};
 ghost use Prim.Native.Nat.{_+_};
 ghost use Rattle.copy.specs.Copies.{CopiesT, CopiesL};
-ghost use Rattle.copy.specs.Ready.{ReadyT, ReadyL};
+ghost use Rattle.copy.specs.Ready.{ReadyT, ReadyB, ReadyL};
 ghost use Rattle.copy.specs.Solution.{headSolution, Heading, Copying, CopiesSolution};
 ghost use Rattle.copy.specs.Expand.{Expanding, Expands};
 
-// A copy of a term, its variables renamed by the map, holes inside it kept as they are.
+// A copy of a term, its variables renamed by the map, holes inside it kept as they are: of the body below its lambdas, and then the lambdas.
 fn copy_term(
     table: &mut [u32],
     n: u32,
@@ -37,11 +37,32 @@ fn copy_term(
     requires { ⌜ ReadyT room n map (now table) used depth at ⌝ }
     ensures { λ r. ⌜ CopiesT room n map (now (table .entry)) used depth at (now (table .exit)) r ⌝ }
 {
-    let rec = read(table, at);
-    if rec.tag == LA {
-        let body = copy_term(table, n, used, room, map, depth + 1, rec.a);
-        return then_under(table, n, room, LA, 0, body);
+    let mut inner = depth;
+    let mut term = at;
+    let mut rec = read(table, at);
+    while rec.tag == LA {
+        inner += 1;
+        term = rec.a;
+        rec = read(table, term);
     }
+    let body = copy_body(table, n, used, room, map, inner, term);
+    then_lambdas(table, n, room, inner - depth, body)
+}
+
+// The same for a term that is no lambda.
+fn copy_body(
+    table: &mut [u32],
+    n: u32,
+    used: u32,
+    room: u32,
+    map: Map,
+    depth: u32,
+    at: u32,
+) -> Walked
+    requires { ⌜ ReadyB room n map (now table) used depth at ⌝ }
+    ensures { λ r. ⌜ CopiesT room n map (now (table .entry)) used depth at (now (table .exit)) r ⌝ }
+{
+    let rec = read(table, at);
     if rec.tag == HA {
         let kept = follow(table, map, false, depth, rec.b);
         return push_occurrence(table, n, used, room, Hole(rec.a), kept, false);

@@ -1,4 +1,4 @@
--- `copy_args` and `copy_term` of `copy`, which call each other, meet their contracts.
+-- `copy_args`, `copy_body` and `copy_term` of `copy`, which call each other, meet their contracts.
 use borrow.Author.Needs.{needs}
 use Prim.Native.Nat.{suc}
 use mathlib.Core.Bool.{false}
@@ -7,33 +7,40 @@ use Rattle.places.specs.Maps.{mapOf}
 use Rattle.rewrite.specs.Levels.{Headed, head-named}
 use Rattle.laws.specs.Lists.{size}
 use Rattle.places.specs.Filling.{fits-index, fits-next}
-use Rattle.copy.specs.Ready.{to-read, to-look, to-depth, to-push, to-since, to-then, fall-body, to-body, copied-lambda, to-counts, to-write, copied-hole, to-name, head-kept, copied-leaf, fall-args, to-args, copied-rigid}
+use Rattle.copy.specs.Ready.{to-read, to-read-b, to-look, to-push, to-since, to-then, to-counts, to-write, copied-hole, to-name, head-kept, copied-leaf, fall-args, to-args, copied-rigid}
+use Rattle.copy.specs.Below.{Below, below-first, below-depth, below-less, below-read, below-next, below-body, below-falls, below-deep, below-then, below-ends}
 use Rattle.copy.specs.Each.{Turn, turn-first, turn-kept, turn-array, turn-cells, turn-ends, turn-read, turn-falls, turn-less, turn-head, room-left, turn-stops, turn-next}
-use Prim.Native.Nat.{ℕ, _<_}
+use Prim.Native.Nat.{ℕ, _+_, _*_, _<_}
 use borrow.Fn.Kinds.{In}
 use borrow.Fn.PlainCycle.{Measures, is, falls, and}
 use Rattle.copy.proofs.copy_args.Reads as copy-args
 use Rattle.copy.proofs.copy_args.Kinds as copy-args-kinds
-use Rattle.copy.proofs.+copy_args+copy_term.Lts-copy_args as copy-args-lts
+use Rattle.copy.proofs.+copy_args+copy_body+copy_term.Lts-copy_args as copy-args-lts
+use Rattle.copy.proofs.copy_body.Reads as copy-body
+use Rattle.copy.proofs.copy_body.Kinds as copy-body-kinds
+use Rattle.copy.proofs.+copy_args+copy_body+copy_term.Lts-copy_body as copy-body-lts
 use Rattle.copy.proofs.copy_term.Reads as copy-term
 use Rattle.copy.proofs.copy_term.Kinds as copy-term-kinds
-use Rattle.copy.proofs.+copy_args+copy_term.Lts-copy_term as copy-term-lts
+use Rattle.copy.proofs.+copy_args+copy_body+copy_term.Lts-copy_term as copy-term-lts
 use Rattle.rewrite.proofs.renamed.Reads as renamed-reads
+use Rattle.rewrite.proofs.then_lambdas.Reads as then-lambdas-reads
 use Rattle.narrow.proofs.push_cells.Reads as push-cells-reads
 use Rattle.narrow.proofs.push_occurrence.Reads as push-occurrence-reads
 use Rattle.places.proofs.follow.Reads as follow-reads
 use Rattle.store.proofs.push.Reads as push-reads
 use Rattle.store.proofs.then_over.Reads as then-over-reads
-use Rattle.store.proofs.then_under.Reads as then-under-reads
 use Rattle.table.proofs.read.Reads as read-reads
-use Rattle.copy.proofs.+copy_args+copy_term.{statement}
-use Rattle.copy.proofs.+copy_args+copy_term.Tie.{close}
+use Rattle.copy.proofs.+copy_args+copy_body+copy_term.{statement}
+use Rattle.copy.proofs.+copy_args+copy_body+copy_term.Tie.{close}
 
 abbrev μ-copy-args : Measures 1 copy-args-kinds.ps ℕ
-μ-copy-args κs a = size (a .1 .1 .1 .1 .1 .1 .0)
+μ-copy-args κs a = 2 * size (a .1 .1 .1 .1 .1 .1 .0)
+
+abbrev μ-copy-body : Measures 1 copy-body-kinds.ps ℕ
+μ-copy-body κs a = 2 * suc (a .1 .1 .1 .1 .1 .1 .0)
 
 abbrev μ-copy-term : Measures 1 copy-term-kinds.ps ℕ
-μ-copy-term κs a = suc (a .1 .1 .1 .1 .1 .1 .0)
+μ-copy-term κs a = 2 * suc (a .1 .1 .1 .1 .1 .1 .0) + 1
 
 abbrev copy-args-at : ℕ → In 1 copy-args-kinds.ps
 copy-args-at t = and 1 copy-args-kinds.ps (is 1 copy-args-kinds.ps μ-copy-args t) copy-args.Pre
@@ -41,6 +48,13 @@ copy-args-at t = and 1 copy-args-kinds.ps (is 1 copy-args-kinds.ps μ-copy-args 
 abbrev copy-args-below : ℕ → In 1 copy-args-kinds.ps
 copy-args-below t =
     and 1 copy-args-kinds.ps (falls 1 copy-args-kinds.ps _<_ μ-copy-args t) copy-args.Pre
+
+abbrev copy-body-at : ℕ → In 1 copy-body-kinds.ps
+copy-body-at t = and 1 copy-body-kinds.ps (is 1 copy-body-kinds.ps μ-copy-body t) copy-body.Pre
+
+abbrev copy-body-below : ℕ → In 1 copy-body-kinds.ps
+copy-body-below t =
+    and 1 copy-body-kinds.ps (falls 1 copy-body-kinds.ps _<_ μ-copy-body t) copy-body.Pre
 
 abbrev copy-term-at : ℕ → In 1 copy-term-kinds.ps
 copy-term-at t = and 1 copy-term-kinds.ps (is 1 copy-term-kinds.ps μ-copy-term t) copy-term.Pre
@@ -55,13 +69,19 @@ copy-args-Inv-loop table₀ n used room map depth list noted₀ k₀ taken₀ le
 abbrev copy-args-μ-loop : copy-args-lts.MeasureT-loop
 copy-args-μ-loop table₀ n used room map depth list noted₀ k₀ taken₀ left₀ table noted k taken left = size left
 
--- the head's number, where the ways of a constant and a variable meet
-headed : (t : ℕ) (c : copy-term-lts.Joined3 (read-reads.Asked, read-reads.Learnt, copy-term-below t, copy-term.Post, then-under-reads.Asked, then-under-reads.Learnt, follow-reads.Asked, follow-reads.Learnt, push-occurrence-reads.Asked, push-occurrence-reads.Learnt, renamed-reads.Asked, renamed-reads.Learnt, push-reads.Asked, push-reads.Learnt, copy-args-below t, copy-args.Post, then-over-reads.Asked, then-over-reads.Learnt) (copy-term-at t) copy-term.Post)
-    → Headed (mapOf false (c .before .before .before .before .before .before .before .before .before .args .map)) (c .before .before .before .before .before .before .before .before .before .args .depth) (c .before .before .before .before .before .before .read .result) (c .if3 .head)
-headed t c = ⊎-elim (λ w. search head-named) (λ w. search head-kept) (c .if3 .came)
+abbrev copy-term-Inv-loop : copy-term-lts.InvT-loop
+copy-term-Inv-loop table n used room map depth at inner₀ term₀ rec₀ inner term rec = Below room n map table used depth at inner term rec
 
-pub +copy-args+copy-term-spec : {M : Type 1} → statement M
-+copy-args+copy-term-spec = close μ-copy-args μ-copy-term (λ t. copy-args-lts.spec (
+abbrev copy-term-μ-loop : copy-term-lts.MeasureT-loop
+copy-term-μ-loop table n used room map depth at inner₀ term₀ rec₀ inner term rec = term
+
+-- the head's number, where the ways of a constant and a variable meet
+headed : (t : ℕ) (c : copy-body-lts.Joined2 (read-reads.Asked, read-reads.Learnt, follow-reads.Asked, follow-reads.Learnt, push-occurrence-reads.Asked, push-occurrence-reads.Learnt, renamed-reads.Asked, renamed-reads.Learnt, push-reads.Asked, push-reads.Learnt, copy-args-below t, copy-args.Post, then-over-reads.Asked, then-over-reads.Learnt) (copy-body-at t) copy-body.Post)
+    → Headed (mapOf false (c .before .before .before .before .before .before .before .args .map)) (c .before .before .before .before .before .before .before .args .depth) (c .before .before .before .before .read .result) (c .if2 .head)
+headed t c = ⊎-elim (λ w. search head-named) (λ w. search head-kept) (c .if2 .came)
+
+pub +copy-args+copy-body+copy-term-spec : {M : Type 1} → statement M
++copy-args+copy-body+copy-term-spec = close μ-copy-args μ-copy-body μ-copy-term (λ t. copy-args-lts.spec (
   read-reads.Asked,
   read-reads.Learnt,
   copy-term-below t,
@@ -89,13 +109,9 @@ pub +copy-args+copy-term-spec : {M : Type 1} → statement M
     (λ c κs. search turn-cells)
     (λ c. search turn-kept)
     (λ c. search turn-ends))
-    λ t. copy-term-lts.spec (
+    (λ t. copy-body-lts.spec (
       read-reads.Asked,
       read-reads.Learnt,
-      copy-term-below t,
-      copy-term.Post,
-      then-under-reads.Asked,
-      then-under-reads.Learnt,
       follow-reads.Asked,
       follow-reads.Learnt,
       push-occurrence-reads.Asked,
@@ -109,14 +125,9 @@ pub +copy-args+copy-term-spec : {M : Type 1} → statement M
       then-over-reads.Asked,
       then-over-reads.Learnt,
     )
-    (copy-term-at t)
-    copy-term.Post
-    (λ c κs. search to-read)
-    (λ c. search to-depth)
-    (λ c κs. (search fall-body, search to-body))
-    (λ c κs. (search to-then, search needs))
-    (λ c. search needs)
-    (λ c. search copied-lambda)
+    (copy-body-at t)
+    copy-body.Post
+    (λ c κs. search to-read-b)
     (λ c κs. (search to-counts, search to-look))
     (λ c κs. search to-write)
     (λ c. search needs)
@@ -128,4 +139,27 @@ pub +copy-args+copy-term-spec : {M : Type 1} → statement M
     (λ c κs. (search fall-args, search to-args))
     (λ c κs. (search to-then, search needs))
     (λ c. search needs)
-    (λ c. let q = headed t (c .before .before .before .before .before .before .before .before .before .before) in search copied-rigid)
+    (λ c. let q = headed t (c .before .before .before .before .before .before .before .before .before .before) in search copied-rigid))
+    λ t. copy-term-lts.spec (
+      read-reads.Asked,
+      read-reads.Learnt,
+      copy-body-below t,
+      copy-body.Post,
+      then-lambdas-reads.Asked,
+      then-lambdas-reads.Learnt,
+    )
+    (copy-term-at t)
+    copy-term.Post
+    copy-term-Inv-loop
+    copy-term-μ-loop
+    (λ c κs. search to-read)
+    (λ c. search below-first)
+    (λ c. search below-depth)
+    (λ c κs. search below-read)
+    (λ c. search below-less)
+    (λ c. search below-next)
+    (λ c κs. (search below-falls, search below-body))
+    (λ c. search below-deep)
+    (λ c κs. (search below-then, search needs))
+    (λ c. search needs)
+    (λ c. search below-ends)
