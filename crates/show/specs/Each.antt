@@ -79,7 +79,7 @@ module _ (O : ℕ) (m : Map) (ws ss os₀ : List ℕ) (used₀ F d l₀ : ℕ) w
         pub room-left : k < 16
         room-left = let f = few in omega arith
 
-        pub turn-falls : (t : ℕ) → reach 4096 F (size l₀) ≡ t → reach 4096 F (suc (w .a)) < t
+        pub turn-falls : (t : ℕ) → 2 * reach 4096 F (size l₀) ≡ t → 2 * reach 4096 F (suc (w .a)) + 1 < t
         turn-falls t z = let a = lower .0 in let b = h .less in omega arith
 
         pub turn-less : size (w .b) < size l

@@ -19,7 +19,7 @@ use Rattle.invariants.specs.Grow.{sub-less, args-less}
 use Rattle.invariants.specs.Places.{Low, followed}
 use Rattle.invariants.specs.Rise.{reach, raised-on, Rises, rises}
 use Rattle.promise.specs.ShowKnown.{ShowKnown, ShowAllKnown, HoleKnown, show-body, show-constant, show-variable, show-hole, hole-solution}
-use Rattle.store.specs.Said.{store, Then, over, under}
+use Rattle.store.specs.Said.{store, Then, over}
 use Rattle.places.specs.Maps.{mapOf, Whole}
 use Rattle.places.specs.Looking.{Looks}
 use Rattle.places.specs.Lists.{Counts, varsOf}
@@ -28,7 +28,7 @@ use Rattle.narrow.specs.Writing.{Writing}
 use Rattle.rewrite.specs.Renamed.{Renaming}
 use Rattle.rewrite.specs.Levels.{Headed, of-constant}
 use Rattle.rewrite.specs.Parts.{term-read, body-at, args-at, size-args, few-at, counts-at}
-use Rattle.show.specs.Shows.{ShowsT, ShowsL, ShowsH, show-lambda, show-rigid, show-occurrence, hole-expanded}
+use Rattle.show.specs.Shows.{ShowsT, ShowsL, ShowsH, show-rigid, show-occurrence, hole-expanded}
 
 -- the table that is read: of a final store of the machine
 pub record Final (ws ss : List ℕ) : Type 0 where
@@ -52,6 +52,11 @@ pub record ReadyT (O : ℕ) (m : Map) (ws ss os : List ℕ) (F d r : ℕ) : Type
   pub is : Sub ws (table .home) F (table .used) r
   pub on : On O m os F d (suc r)
   pub known : ShowKnown (table .R) (store ws ss (table .used)) (mapOf false m) d r
+
+-- a term that is no lambda
+pub record ReadyB (O : ℕ) (m : Map) (ws ss os : List ℕ) (F d r : ℕ) : Type 0 where
+  pub on : ReadyT O m ws ss os F d r
+  pub plain : tag ws r ≡ 6 → ⊥
 
 pub record ReadyL (O : ℕ) (m : Map) (ws ss os : List ℕ) (F d l : ℕ) : Type 0 where
   pub table : Final ws ss
@@ -83,32 +88,17 @@ module _ {O : ℕ} {m : Map} {ws ss os : List ℕ} {F d r : ℕ} where
     pub to-read : 4 * r + 3 < length ws
     to-read = let t = h .table in term-read (t .R) (t .n) (t .home) ws ss (t .used) F r (t .fine) (h .is)
 
-    pub to-look : Looks false m d
-    to-look = looks-on (h .on)
-
-    pub to-depth : Fits w32 (d + 1)
-    to-depth = let f = h .on .fits in record { fits = omega arith }
-
-    pub to-push : 4 * O ≤ length os
-    to-push = h .on .room
-
-    pub to-then : (os₁ : List ℕ) → length os₁ ≡ length os → 4 * O ≤ length os₁
-    to-then os₁ e = let c = h .on .room in omega arith
-
     low-at : r < 4096
     low-at = let b = h .is .below in let f = h .table .fine in let w = f .within in let c = f .few in omega arith
 
-    pub to-above : Fits w32 (r + 1)
-    to-above = let l = low-at in record { fits = omega arith }
-
+  -- the body of a lambda
   module _ (w : Record) (e : IsRecord ws r w) (h : ReadyT O m ws ss os F d r) where
-    -- the body of a lambda
     module _ (k : w .tag ≡ 6) where
       body : Sub ws (h .table .home) F r (w .a)
       body = let b = h .table in body-at (b .R) (b .n) (b .home) ws ss (b .used) F r (b .fine) (h .is) w e k
 
-      pub fall-body : (t : ℕ) → reach 4096 F (suc r) ≡ t → reach 4096 F (suc (w .a)) < t
-      fall-body t z = let b = body .below in omega arith
+      pub body-less : w .a < r
+      body-less = body .below
 
       pub to-body : ReadyT O m ws ss os F (d + 1) (w .a)
       to-body =
@@ -121,53 +111,72 @@ module _ {O : ℕ} {m : Map} {ws ss os : List ℕ} {F d r : ℕ} where
             known = rw (e .a-is) (show-body (h .known) (sym (e .tag-is) ∙ k));
           }
 
-      pub shows-lambda : (os₁ : List ℕ) (used : ℕ) (x : Walked) (os₂ : List ℕ) (y : Walked)
-          → ShowsT O m ws ss os used F (d + 1) (w .a) os₁ x → Then 0 (under O 6 0) os₁ x os₂ y → ShowsT O m ws ss os used F d r os₂ y
-      shows-lambda os₁ used x os₂ y p q = show-lambda O m ws ss os used F d r w e os₁ x os₂ y k (fall-body _ refl) p q
+  -- a term that is no lambda
+  module _ (h : ReadyB O m ws ss os F d r) where
+    pub to-read-b : 4 * r + 3 < length ws
+    to-read-b = to-read (h .on)
 
+    pub to-look : Looks false m d
+    to-look = looks-on (h .on .on)
+
+    pub to-push : 4 * O ≤ length os
+    to-push = h .on .on .room
+
+    pub to-then : (os₁ : List ℕ) → length os₁ ≡ length os → 4 * O ≤ length os₁
+    to-then os₁ e = let c = h .on .on .room in omega arith
+
+    pub to-above : Fits w32 (r + 1)
+    to-above = let l = low-at (h .on) in record { fits = omega arith }
+
+  module _ (w : Record) (e : IsRecord ws r w) (h : ReadyB O m ws ss os F d r) where
     -- a rigid head
     pub to-name : w .tag ≡ 8 → Renaming m d (w .a)
     to-name t =
-        let p = show-variable (h .known) (sym (e .tag-is) ∙ t) .0 in
-        record { looks = looks-on (h .on); to = p .0; has = rw (e .a-is) (p .1) }
+        let p = show-variable (h .on .known) (sym (e .tag-is) ∙ t) .0 in
+        record { looks = looks-on (h .on .on); to = p .0; has = rw (e .a-is) (p .1) }
 
-    module _ (a : w .tag ≡ 6 → ⊥) (b : w .tag ≡ 9 → ⊥) where
+    module _ (b : w .tag ≡ 9 → ⊥) where
+      a : w .tag ≡ 6 → ⊥
+      a q = h .plain (sym (e .tag-is) ∙ q)
+
       pub head-kept : (x : ℕ) → (w .tag ≡ 8 → ⊥) → x ≡ w .a → Headed (mapOf false m) d w x
-      head-kept x c q = let lo = h .is .term .low in let hi = h .is .term .high in let z = e .tag-is in of-constant (omega arith) (sym q)
+      head-kept x c q = let p = h .plain in let lo = h .on .is .term .low in let hi = h .on .is .term .high in let z = e .tag-is in of-constant (omega arith) (sym q)
 
       small : size (w .b) ≤ r
-      small = let t = h .table in size-args (t .R) (t .n) (t .home) ws ss (t .used) F r (t .fine) (h .is) w e a
+      small = let t = h .on .table in size-args (t .R) (t .n) (t .home) ws ss (t .used) F r (t .fine) (h .on .is) w e a
 
-      pub fall-args : (t : ℕ) → reach 4096 F (suc r) ≡ t → reach 4096 F (size (w .b)) < t
+      -- the cycle's measure is twice the reach, and one more at a term whose lambdas are not yet taken off
+      pub fall-args : (t : ℕ) → 2 * reach 4096 F (suc r) ≡ t → 2 * reach 4096 F (size (w .b)) < t
       fall-args t z = let s = small in omega arith
 
-      knows : ShowAllKnown (h .table .R) (store ws ss (h .table .used)) (mapOf false m) d (w .b)
+      knows : ShowAllKnown (h .on .table .R) (store ws ss (h .on .table .used)) (mapOf false m) d (w .b)
       knows = rw (e .b-is) (go (ℕ-discrete (tag ws r) 7))
         where
-          go : Dec (tag ws r ≡ 7) → ShowAllKnown (h .table .R) (store ws ss (h .table .used)) (mapOf false m) d (fieldB ws r)
-          go (yes t) = show-constant (h .known) t
+          go : Dec (tag ws r ≡ 7) → ShowAllKnown (h .on .table .R) (store ws ss (h .on .table .used)) (mapOf false m) d (fieldB ws r)
+          go (yes t) = show-constant (h .on .known) t
           go (no t) =
-              let lo = h .is .term .low in
-              let hi = h .is .term .high in
+              let lo = h .on .is .term .low in
+              let hi = h .on .is .term .high in
               let z = e .tag-is in
-              show-variable (h .known) (omega arith) .1
+              let p = h .plain in
+              show-variable (h .on .known) (omega arith) .1
 
       pub to-args : ReadyL O m ws ss os F d (w .b)
       to-args =
           let s = small in
-          let i = h .is .below in
-          let t = h .table in
+          let i = h .on .is .below in
+          let t = h .on .table in
           record {
             table = t;
-            is = args-less ws (t .home) F F r (t .used) (w .b) (args-at (t .R) (t .n) (t .home) ws ss (t .used) F r (t .fine) (h .is) w e a) (omega arith) (omega arith);
-            few = few-at (t .R) (t .n) (t .home) ws ss (t .used) F r (t .fine) (h .is) w e a;
-            on = on-part d (size (w .b)) os (h .on) refl (omega arith);
+            is = args-less ws (t .home) F F r (t .used) (w .b) (args-at (t .R) (t .n) (t .home) ws ss (t .used) F r (t .fine) (h .on .is) w e a) (omega arith) (omega arith);
+            few = few-at (t .R) (t .n) (t .home) ws ss (t .used) F r (t .fine) (h .on .is) w e a;
+            on = on-part d (size (w .b)) os (h .on .on) refl (omega arith);
             known = knows;
           }
 
       pub shows-rigid : (v : ℕ) (os₁ : List ℕ) (used : ℕ) (x : Walked) (os₂ : List ℕ) (y : Walked) → Headed (mapOf false m) d w v
           → ShowsL O m ws ss os used F d (w .b) os₁ x → Then 0 (over O (w .tag) v) os₁ x os₂ y → ShowsT O m ws ss os used F d r os₂ y
-      shows-rigid v os₁ used x os₂ y t p q = show-rigid O m ws ss os used F d r w e v os₁ x os₂ y t (fall-args _ refl) p q
+      shows-rigid v os₁ used x os₂ y t p q = show-rigid O m ws ss os used F d r w e v os₁ x os₂ y t (let s = small in omega arith) p q
 
     -- an occurrence
     module _ (k : w .tag ≡ 9) where
@@ -175,53 +184,53 @@ module _ {O : ℕ} {m : Map} {ws ss os : List ℕ} {F d r : ℕ} where
       nine = sym (e .tag-is) ∙ k
 
       pub to-counts : Counts ws (w .b)
-      to-counts = let t = h .table in counts-at (t .R) (t .n) (t .home) ws ss (t .used) F r (t .fine) (h .is) w e nine
+      to-counts = let t = h .on .table in counts-at (t .R) (t .n) (t .home) ws ss (t .used) F r (t .fine) (h .on .is) w e nine
 
       own : F ≤ r
-      own = let u = h .is .up in let o = h .table .fine .good r (h .is .below) .own in omega arith
+      own = let u = h .on .is .up in let o = h .on .table .fine .good r (h .on .is .below) .own in omega arith
 
-      pub fall-hole : (t : ℕ) → reach 4096 F (suc r) ≡ t → reach 4096 (r + 1) 4097 < t
-      fall-hole t z = let l = low-at h in let o = own in omega arith
+      pub fall-hole : (t : ℕ) → 2 * reach 4096 F (suc r) ≡ t → 2 * reach 4096 (r + 1) 4097 < t
+      fall-hole t z = let l = low-at (h .on) in let o = own in omega arith
 
       -- below a solved hole of a solution the floor is past the occurrence
-      risen : (getD ss (w .a) NONE ≡ NONE → ⊥) → Sub ws (h .table .home) (r + 1) (h .table .used) (getD ss (w .a) NONE)
+      risen : (getD ss (w .a) NONE ≡ NONE → ⊥) → Sub ws (h .on .table .home) (r + 1) (h .on .table .used) (getD ss (w .a) NONE)
       risen ne =
-          let t = h .table in
-          let fl = h .on .floor in
+          let t = h .on .table in
+          let fl = h .on .on .floor in
           let z : F ≡ 0 → ⊥ = omega arith in
           let ne₁ : getD ss (fieldA ws r) NONE ≡ NONE → ⊥ = rw (← e .a-is) ne in
-          let ri : Rises (t .R) (t .home) (store ws ss (t .used)) F r (r + 1) (getD ss (fieldA ws r) NONE) = rw (← raised-on (t .n) F r z) (rises (t .R) (t .n) (t .home) (store ws ss (t .used)) F r (t .fine) (h .is .below) nine (h .is .up) ne₁) in
+          let ri : Rises (t .R) (t .home) (store ws ss (t .used)) F r (r + 1) (getD ss (fieldA ws r) NONE) = rw (← raised-on (t .n) F r z) (rises (t .R) (t .n) (t .home) (store ws ss (t .used)) F r (t .fine) (h .on .is .below) nine (h .on .is .up) ne₁) in
           rw (e .a-is) (ri .sub)
 
       pub to-hole : (next : Map) → Followed ws false m d (w .b) next → ReadyH O next ws ss os (r + 1) (w .a)
       unfolding variables arguments
       to-hole next f =
-          let t = h .table in
-          let o = t .fine .good r (h .is .below) .occ nine .below in
+          let t = h .on .table in
+          let o = t .fine .good r (h .on .is .below) .occ nine .below in
           let q = e .a-is in
-          let b₀ = h .is .below in
+          let b₀ = h .on .is .below in
           let wi = t .fine .within in
           let he = t .fine .held in
-          let fi = h .on .fits in
-          let l = low-at h in
+          let fi = h .on .on .fits in
+          let l = low-at (h .on) in
           let ow = own in
           record {
             table = t;
             held = omega arith;
             is = risen;
             on = record {
-              room = h .on .room;
+              room = h .on .on .room;
               whole = f .whole;
-              top = h .on .top + d;
-              low = rw (f .run) (followed (mapOf false m) d (h .on .top) 0 (varsOf ws (w .b)) (h .on .low) .low);
+              top = h .on .on .top + d;
+              low = rw (f .run) (followed (mapOf false m) d (h .on .on .top) 0 (varsOf ws (w .b)) (h .on .on .low) .low);
               fits = omega arith;
               floor = omega arith;
             };
-            known = rw (f .run, e .a-is, e .b-is) (show-hole (h .known) nine);
+            known = rw (f .run, e .a-is, e .b-is) (show-hole (h .on .known) nine);
           }
 
       pub shows-occurrence : (next : Map) (used : ℕ) (os₁ : List ℕ) (x : Walked) → Followed ws false m d (w .b) next → ShowsH O next ws ss os used (r + 1) (w .a) os₁ x → ShowsT O m ws ss os used F d r os₁ x
-      shows-occurrence next used os₁ x f p = show-occurrence O m ws ss os used F d r w e next (r + 1) os₁ x nine f (fall-hole _ refl) p
+      shows-occurrence next used os₁ x f p = show-occurrence O m ws ss os used F d r w e next (r + 1) os₁ x nine f (let l = low-at (h .on) in let o = own in omega arith) p
 
 -- holes
 module _ {O : ℕ} {m : Map} {ws ss os : List ℕ} {F h : ℕ} (g : ReadyH O m ws ss os F h) where
@@ -235,11 +244,14 @@ module _ {O : ℕ} {m : Map} {ws ss os : List ℕ} {F h : ℕ} (g : ReadyH O m w
     at : Sub ws (g .table .home) F (g .table .used) t
     at = rw st at (g .is (λ q. ne (sym st ∙ q)))
 
-    pub fall-solution : (k : ℕ) → reach 4096 F 4097 ≡ k → reach 4096 F (suc t) < k
-    fall-solution k z = let b = at .below in let f = g .table .fine in let w = f .within in let c = f .few in omega arith
+    low : reach 4096 F (suc t) < reach 4096 F 4097
+    low = let b = at .below in let f = g .table .fine in let w = f .within in let c = f .few in omega arith
+
+    pub fall-solution : (k : ℕ) → 2 * reach 4096 F 4097 ≡ k → 2 * reach 4096 F (suc t) + 1 < k
+    fall-solution k z = let l = low in omega arith
 
     pub to-term : ReadyT O m ws ss os F 0 t
-    to-term = let l = fall-solution _ refl in record { table = g .table; is = at; on = on-part 0 (suc t) os (g .on) refl (omega arith); known = hole-solution (g .known) t st ne }
+    to-term = let l = low in record { table = g .table; is = at; on = on-part 0 (suc t) os (g .on) refl (omega arith); known = hole-solution (g .known) t st ne }
 
     pub shows-solution : (used : ℕ) (os₁ : List ℕ) (x : Walked) → ShowsT O m ws ss os used F 0 t os₁ x → ShowsH O m ws ss os used F h os₁ x
-    shows-solution used os₁ x p = hole-expanded O m ws ss os used F h t st os₁ x ne (fall-solution _ refl) p
+    shows-solution used os₁ x p = hole-expanded O m ws ss os used F h t st os₁ x ne low p

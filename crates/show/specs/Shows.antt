@@ -11,7 +11,7 @@ use Rattle.table.specs.declared.Record.{Record}
 use Rattle.table.specs.Reading.{IsRecord}
 use Rattle.places.specs.declared.Map.{Map}
 use Rattle.rules.specs.Words.{NONE, tag, fieldB, elements, arguments, variables}
-use Rattle.rules.specs.Store.{push, pushOccurrence, solved, solution}
+use Rattle.rules.specs.Store.{Out, _>>=_, push, pushOccurrence, solved, solution}
 use Rattle.rules.specs.Map.{follow}
 use Rattle.rules.specs.Rewrite.{writeAll, writeTerm}
 use Rattle.rules.specs.Show.{showHole, expandHole, showTerm}
@@ -23,9 +23,13 @@ use Rattle.places.specs.Lists.{varsOf}
 use Rattle.places.specs.Follow.{Followed}
 use Rattle.rewrite.specs.Levels.{fuel, Headed, level-lambda, level-rigid, level-leaf, level-hole}
 
+-- with fuel enough, a term is shown as this
+abbrev pub Gives : ℕ → Map → List ℕ → List ℕ → List ℕ → ℕ → ℕ → ℕ → ℕ → Out ℕ → Type 0
+Gives O m ws ss os used F d r o = (f : ℕ) → reach 4096 F (suc r) < f → showTerm f O ws (mapOf false m) d r (store os ss used) ≡ o
+
 -- with fuel enough, a term, a list and a hole are shown so
 pub record ShowsT (O : ℕ) (m : Map) (ws ss os : List ℕ) (used F d r : ℕ) (os₁ : List ℕ) (x : Walked) : Type 0 where
-  pub run : (f : ℕ) → reach 4096 F (suc r) < f → showTerm f O ws (mapOf false m) d r (store os ss used) ≡ shown os₁ ss x
+  pub run : Gives O m ws ss os used F d r (shown os₁ ss x)
 
 pub record ShowsL (O : ℕ) (m : Map) (ws ss os : List ℕ) (used F d l : ℕ) (os₁ : List ℕ) (x : Walked) : Type 0 where
   pub run : (f : ℕ) → reach 4096 F (size l) ≤ f → writeAll (showTerm f O ws) O (mapOf false m) d (elements ws l) (store os ss used) ≡ shown os₁ ss x
@@ -45,9 +49,10 @@ module _ (O : ℕ) (m : Map) (ws ss os : List ℕ) (used F d r : ℕ) where
   more os₁ x h = record { run = λ f hf. let q = fuel f _ hf in rw (q .1) (h (q .0) (q .2)) }
 
   module _ (w : Record) (e : IsRecord ws r w) where
-    pub show-lambda : (os₁ : List ℕ) (x : Walked) (os₂ : List ℕ) (y : Walked) → w .tag ≡ 6 → reach 4096 F (suc (w .a)) < reach 4096 F (suc r)
-        → ShowsT O m ws ss os used F (d + 1) (w .a) os₁ x → Then 0 (under O 6 0) os₁ x os₂ y → ShowsT O m ws ss os used F d r os₂ y
-    show-lambda os₁ x os₂ y t lt h p = more _ _ λ k hk. level-lambda _ _ O ws (mapOf false m) d r _ w e t ∙ rw (h .run k (omega arith)) (p .run ss)
+    -- whatever the body is shown as, the lambda is written after it
+    pub show-lambda : (o : Out ℕ) → w .tag ≡ 6 → reach 4096 F (suc (w .a)) < reach 4096 F (suc r) → Gives O m ws ss os used F (d + 1) (w .a) o → Gives O m ws ss os used F d r (o >>= under O 6 0)
+    unfolding showTerm
+    show-lambda o t lt h f hf = let q = fuel f _ hf in rw (q .1) (level-lambda _ _ O ws (mapOf false m) d r _ w e t ∙ rw (h (q .0) (let z = q .2 in omega arith)))
 
     pub show-rigid : (v : ℕ) (os₁ : List ℕ) (x : Walked) (os₂ : List ℕ) (y : Walked) → Headed (mapOf false m) d w v → reach 4096 F (size (w .b)) < reach 4096 F (suc r)
         → ShowsL O m ws ss os used F d (w .b) os₁ x → Then 0 (over O (w .tag) v) os₁ x os₂ y → ShowsT O m ws ss os used F d r os₂ y

@@ -5,11 +5,11 @@ use places::Map;
 use places::follow;
 use places::in_order;
 use rewrite::renamed;
+use rewrite::then_lambdas;
 use store::Walked;
 use store::push;
 use store::solution_of;
 use store::then_over;
-use store::then_under;
 use table::HA;
 use table::Hole;
 use table::LA;
@@ -21,7 +21,7 @@ ghost use mathlib.Core.Path.{_≡_};
 ghost use Rattle.rules.specs.Show.{answer as answerOf};
 ghost use Rattle.store.specs.Said.{store, shown};
 ghost use Rattle.show.specs.Shows.{ShowsT, ShowsL, ShowsH};
-ghost use Rattle.show.specs.Ready.{ReadyT, ReadyL, ReadyH};
+ghost use Rattle.show.specs.Ready.{ReadyT, ReadyB, ReadyL, ReadyH};
 ghost use Rattle.show.specs.Answer.{Answering};
 
 // What the parts of a showing share: an output of `room` records, and the floor. The floor is there for the proof that showing ends:
@@ -31,7 +31,7 @@ struct Task {
     floor: u32,
 }
 
-// A term of the table written to the output, its variables renamed by the map.
+// A term of the table written to the output, its variables renamed by the map: the body below its lambdas, and then the lambdas.
 fn show_term(
     table: &[u32],
     solutions: &[u32],
@@ -45,11 +45,33 @@ fn show_term(
     requires { ⌜ ReadyT (task .room) map (now table) (now solutions) (now output) (task .floor) depth at ⌝ }
     ensures { λ r. ⌜ ShowsT (task .room) map (now (table .entry)) (now (solutions .entry)) (now (output .entry)) used (task .floor) depth at (now (output .exit)) r ⌝ }
 {
-    let rec = read(table, at);
-    if rec.tag == LA {
-        let body = show_term(table, solutions, output, task, used, map, depth + 1, rec.a);
-        return then_under(output, 0, task.room, LA, 0, body);
+    let mut inner = depth;
+    let mut term = at;
+    let mut rec = read(table, at);
+    while rec.tag == LA {
+        inner += 1;
+        term = rec.a;
+        rec = read(table, term);
     }
+    let body = show_body(table, solutions, output, task, used, map, inner, term);
+    then_lambdas(output, 0, task.room, inner - depth, body)
+}
+
+// The same for a term that is no lambda.
+fn show_body(
+    table: &[u32],
+    solutions: &[u32],
+    output: &mut [u32],
+    task: Task,
+    used: u32,
+    map: Map,
+    depth: u32,
+    at: u32,
+) -> Walked
+    requires { ⌜ ReadyB (task .room) map (now table) (now solutions) (now output) (task .floor) depth at ⌝ }
+    ensures { λ r. ⌜ ShowsT (task .room) map (now (table .entry)) (now (solutions .entry)) (now (output .entry)) used (task .floor) depth at (now (output .exit)) r ⌝ }
+{
+    let rec = read(table, at);
     if rec.tag == HA {
         let next = follow(table, map, false, depth, rec.b);
         let mut below = task;

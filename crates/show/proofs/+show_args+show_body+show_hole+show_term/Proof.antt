@@ -1,4 +1,4 @@
--- `show_args`, `show_hole` and `show_term` of `show`, which call each other, meet their contracts.
+-- `show_args`, `show_body`, `show_hole` and `show_term` of `show`, which call each other, meet their contracts.
 use borrow.Author.Needs.{needs}
 use Prim.Native.Nat.{suc}
 use mathlib.Core.Bool.{false}
@@ -9,40 +9,47 @@ use Rattle.invariants.specs.Rise.{reach}
 use Rattle.places.specs.Maps.{mapOf}
 use Rattle.rewrite.specs.Levels.{Headed, head-named}
 use Rattle.show.specs.Shows.{since-none, show-leaf, hole-written}
-use Rattle.show.specs.Ready.{to-read, to-look, to-depth, to-above, to-push, to-then, fall-body, to-body, shows-lambda, to-counts, fall-hole, to-hole, shows-occurrence, to-name, head-kept, fall-args, to-args, shows-rigid, to-solution, to-write, fall-solution, to-term, shows-solution}
+use Rattle.show.specs.Ready.{to-read, to-read-b, to-look, to-above, to-push, to-then, to-counts, fall-hole, to-hole, shows-occurrence, to-name, head-kept, fall-args, to-args, shows-rigid, to-solution, to-write, fall-solution, to-term, shows-solution}
+use Rattle.show.specs.Below.{Below, below-first, below-depth, below-less, below-read, below-next, below-body, below-falls, below-deep, below-then, below-ends}
 use Rattle.show.specs.Each.{Turn, turn-first, turn-kept, turn-array, turn-cells, turn-ends, turn-read, turn-falls, turn-less, turn-head, room-left, turn-stops, turn-next}
-use Prim.Native.Nat.{ℕ, _<_}
+use Prim.Native.Nat.{ℕ, _+_, _*_, _<_}
 use borrow.Fn.Kinds.{In}
 use borrow.Fn.PlainCycle.{Measures, is, falls, and}
 use Rattle.show.proofs.show_args.Reads as show-args
 use Rattle.show.proofs.show_args.Kinds as show-args-kinds
-use Rattle.show.proofs.+show_args+show_hole+show_term.Lts-show_args as show-args-lts
+use Rattle.show.proofs.+show_args+show_body+show_hole+show_term.Lts-show_args as show-args-lts
+use Rattle.show.proofs.show_body.Reads as show-body
+use Rattle.show.proofs.show_body.Kinds as show-body-kinds
+use Rattle.show.proofs.+show_args+show_body+show_hole+show_term.Lts-show_body as show-body-lts
 use Rattle.show.proofs.show_hole.Reads as show-hole
 use Rattle.show.proofs.show_hole.Kinds as show-hole-kinds
-use Rattle.show.proofs.+show_args+show_hole+show_term.Lts-show_hole as show-hole-lts
+use Rattle.show.proofs.+show_args+show_body+show_hole+show_term.Lts-show_hole as show-hole-lts
 use Rattle.show.proofs.show_term.Reads as show-term
 use Rattle.show.proofs.show_term.Kinds as show-term-kinds
-use Rattle.show.proofs.+show_args+show_hole+show_term.Lts-show_term as show-term-lts
+use Rattle.show.proofs.+show_args+show_body+show_hole+show_term.Lts-show_term as show-term-lts
 use Rattle.narrow.proofs.push_cells.Reads as push-cells-reads
 use Rattle.narrow.proofs.push_occurrence.Reads as push-occurrence-reads
 use Rattle.places.proofs.follow.Reads as follow-reads
 use Rattle.rewrite.proofs.renamed.Reads as renamed-reads
+use Rattle.rewrite.proofs.then_lambdas.Reads as then-lambdas-reads
 use Rattle.store.proofs.push.Reads as push-reads
 use Rattle.store.proofs.solution_of.Reads as solution-of-reads
 use Rattle.store.proofs.then_over.Reads as then-over-reads
-use Rattle.store.proofs.then_under.Reads as then-under-reads
 use Rattle.table.proofs.read.Reads as read-reads
-use Rattle.show.proofs.+show_args+show_hole+show_term.{statement}
-use Rattle.show.proofs.+show_args+show_hole+show_term.Tie.{close}
+use Rattle.show.proofs.+show_args+show_body+show_hole+show_term.{statement}
+use Rattle.show.proofs.+show_args+show_body+show_hole+show_term.Tie.{close}
 
 abbrev μ-show-args : Measures 3 show-args-kinds.ps ℕ
-μ-show-args κs a = reach 4096 (a .1 .1 .1 .0 .floor) (size (a .1 .1 .1 .1 .1 .1 .1 .0))
+μ-show-args κs a = 2 * reach 4096 (a .1 .1 .1 .0 .floor) (size (a .1 .1 .1 .1 .1 .1 .1 .0))
+
+abbrev μ-show-body : Measures 3 show-body-kinds.ps ℕ
+μ-show-body κs a = 2 * reach 4096 (a .1 .1 .1 .0 .floor) (suc (a .1 .1 .1 .1 .1 .1 .1 .0))
 
 abbrev μ-show-hole : Measures 3 show-hole-kinds.ps ℕ
-μ-show-hole κs a = reach 4096 (a .1 .1 .1 .0 .floor) 4097
+μ-show-hole κs a = 2 * reach 4096 (a .1 .1 .1 .0 .floor) 4097
 
 abbrev μ-show-term : Measures 3 show-term-kinds.ps ℕ
-μ-show-term κs a = reach 4096 (a .1 .1 .1 .0 .floor) (suc (a .1 .1 .1 .1 .1 .1 .1 .0))
+μ-show-term κs a = 2 * reach 4096 (a .1 .1 .1 .0 .floor) (suc (a .1 .1 .1 .1 .1 .1 .1 .0)) + 1
 
 abbrev show-args-at : ℕ → In 3 show-args-kinds.ps
 show-args-at t = and 3 show-args-kinds.ps (is 3 show-args-kinds.ps μ-show-args t) show-args.Pre
@@ -50,6 +57,13 @@ show-args-at t = and 3 show-args-kinds.ps (is 3 show-args-kinds.ps μ-show-args 
 abbrev show-args-below : ℕ → In 3 show-args-kinds.ps
 show-args-below t =
     and 3 show-args-kinds.ps (falls 3 show-args-kinds.ps _<_ μ-show-args t) show-args.Pre
+
+abbrev show-body-at : ℕ → In 3 show-body-kinds.ps
+show-body-at t = and 3 show-body-kinds.ps (is 3 show-body-kinds.ps μ-show-body t) show-body.Pre
+
+abbrev show-body-below : ℕ → In 3 show-body-kinds.ps
+show-body-below t =
+    and 3 show-body-kinds.ps (falls 3 show-body-kinds.ps _<_ μ-show-body t) show-body.Pre
 
 abbrev show-hole-at : ℕ → In 3 show-hole-kinds.ps
 show-hole-at t = and 3 show-hole-kinds.ps (is 3 show-hole-kinds.ps μ-show-hole t) show-hole.Pre
@@ -71,14 +85,20 @@ show-args-Inv-loop table solutions output₀ task used map depth list noted₀ k
 abbrev show-args-μ-loop : show-args-lts.MeasureT-loop
 show-args-μ-loop table solutions output₀ task used map depth list noted₀ k₀ taken₀ left₀ output noted k taken left = size left
 
--- the head's number, where the ways of a constant and a variable meet
-headed : (t : ℕ) (c : show-term-lts.Joined3 (read-reads.Asked, read-reads.Learnt, show-term-below t, show-term.Post, then-under-reads.Asked, then-under-reads.Learnt, follow-reads.Asked, follow-reads.Learnt, show-hole-below t, show-hole.Post, renamed-reads.Asked, renamed-reads.Learnt, push-reads.Asked, push-reads.Learnt, show-args-below t, show-args.Post, then-over-reads.Asked, then-over-reads.Learnt) (show-term-at t) show-term.Post)
-    → Headed (mapOf false (c .before .before .before .before .before .before .before .before .before .before .args .map)) (c .before .before .before .before .before .before .before .before .before .before .args .depth) (c .before .before .before .before .before .before .read .result) (c .if3 .head)
-headed t c = ⊎-elim (λ w. search head-named) (λ w. search head-kept) (c .if3 .came)
+abbrev show-term-Inv-loop : show-term-lts.InvT-loop
+show-term-Inv-loop table solutions output task used map depth at inner₀ term₀ rec₀ inner term rec = Below (task .room) map table solutions output used (task .floor) depth at inner term rec
 
-pub +show-args+show-hole+show-term-spec : {M : Type 1} → statement M
-+show-args+show-hole+show-term-spec =
-    close μ-show-args μ-show-hole μ-show-term (λ t. show-args-lts.spec (
+abbrev show-term-μ-loop : show-term-lts.MeasureT-loop
+show-term-μ-loop table solutions output task used map depth at inner₀ term₀ rec₀ inner term rec = term
+
+-- the head's number, where the ways of a constant and a variable meet
+headed : (t : ℕ) (c : show-body-lts.Joined2 (read-reads.Asked, read-reads.Learnt, follow-reads.Asked, follow-reads.Learnt, show-hole-below t, show-hole.Post, renamed-reads.Asked, renamed-reads.Learnt, push-reads.Asked, push-reads.Learnt, show-args-below t, show-args.Post, then-over-reads.Asked, then-over-reads.Learnt) (show-body-at t) show-body.Post)
+    → Headed (mapOf false (c .before .before .before .before .before .before .before .before .args .map)) (c .before .before .before .before .before .before .before .before .args .depth) (c .before .before .before .before .read .result) (c .if2 .head)
+headed t c = ⊎-elim (λ w. search head-named) (λ w. search head-kept) (c .if2 .came)
+
+pub +show-args+show-body+show-hole+show-term-spec : {M : Type 1} → statement M
++show-args+show-body+show-hole+show-term-spec =
+    close μ-show-args μ-show-body μ-show-hole μ-show-term (λ t. show-args-lts.spec (
       read-reads.Asked,
       read-reads.Learnt,
       show-term-below t,
@@ -106,6 +126,38 @@ pub +show-args+show-hole+show-term-spec : {M : Type 1} → statement M
     (λ c κs. search turn-cells)
     (λ c. search turn-kept)
     (λ c. search turn-ends))
+    (λ t. show-body-lts.spec (
+      read-reads.Asked,
+      read-reads.Learnt,
+      follow-reads.Asked,
+      follow-reads.Learnt,
+      show-hole-below t,
+      show-hole.Post,
+      renamed-reads.Asked,
+      renamed-reads.Learnt,
+      push-reads.Asked,
+      push-reads.Learnt,
+      show-args-below t,
+      show-args.Post,
+      then-over-reads.Asked,
+      then-over-reads.Learnt,
+    )
+    (show-body-at t)
+    show-body.Post
+    (λ c κs. search to-read-b)
+    (λ c κs. (search to-counts, search to-look))
+    (λ c. search to-above)
+    (λ c κs. (search fall-hole, search to-hole))
+    (λ c. search needs)
+    (λ c. search shows-occurrence)
+    (λ c κs. search to-name)
+    (λ c κs. (search to-push, search needs))
+    (λ c. search needs)
+    (λ c. let q = headed t (c .before .before .before .before .before .before) in search show-leaf)
+    (λ c κs. (search fall-args, search to-args))
+    (λ c κs. (search to-then, search since-none))
+    (λ c. search needs)
+    (λ c. let q = headed t (c .before .before .before .before .before .before .before .before .before .before) in search shows-rigid))
     (λ t. show-hole-lts.spec (
       solution-of-reads.Asked,
       solution-of-reads.Learnt,
@@ -126,41 +178,23 @@ pub +show-args+show-hole+show-term-spec : {M : Type 1} → statement M
     λ t. show-term-lts.spec (
       read-reads.Asked,
       read-reads.Learnt,
-      show-term-below t,
-      show-term.Post,
-      then-under-reads.Asked,
-      then-under-reads.Learnt,
-      follow-reads.Asked,
-      follow-reads.Learnt,
-      show-hole-below t,
-      show-hole.Post,
-      renamed-reads.Asked,
-      renamed-reads.Learnt,
-      push-reads.Asked,
-      push-reads.Learnt,
-      show-args-below t,
-      show-args.Post,
-      then-over-reads.Asked,
-      then-over-reads.Learnt,
+      show-body-below t,
+      show-body.Post,
+      then-lambdas-reads.Asked,
+      then-lambdas-reads.Learnt,
     )
     (show-term-at t)
     show-term.Post
+    show-term-Inv-loop
+    show-term-μ-loop
     (λ c κs. search to-read)
-    (λ c. search to-depth)
-    (λ c κs. (search fall-body, search to-body))
-    (λ c κs. (search to-then, search since-none))
+    (λ c. search below-first)
+    (λ c. search below-depth)
+    (λ c κs. search below-read)
+    (λ c. search below-less)
+    (λ c. search below-next)
+    (λ c κs. (search below-falls, search below-body))
+    (λ c. search below-deep)
+    (λ c κs. (search below-then, search since-none))
     (λ c. search needs)
-    (λ c. search shows-lambda)
-    (λ c κs. (search to-counts, search to-look))
-    (λ c. search to-above)
-    (λ c κs. (search fall-hole, search to-hole))
-    (λ c. search needs)
-    (λ c. search shows-occurrence)
-    (λ c κs. search to-name)
-    (λ c κs. (search to-push, search needs))
-    (λ c. search needs)
-    (λ c. let q = headed t (c .before .before .before .before .before .before) in search show-leaf)
-    (λ c κs. (search fall-args, search to-args))
-    (λ c κs. (search to-then, search since-none))
-    (λ c. search needs)
-    (λ c. let q = headed t (c .before .before .before .before .before .before .before .before .before .before) in search shows-rigid)
+    (λ c. search below-ends)
