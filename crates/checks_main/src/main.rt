@@ -23,7 +23,7 @@ fn answer(bytes: &[u8], n: usize, words: &mut [u32])
 {
     fill(bytes, 0, words);
     match check(words, n) {
-        Refusal::Admitted => print(0, 0),
+        Refusal::Admitted { count: _ } => print(0, 0),
         Refusal::Refused { answer, place } => print(answer, place),
     }
 }

@@ -1,9 +1,11 @@
 -- Where the run and the machine start.
-use Prim.Native.Nat.{ℕ, _+_, _-_, _*_, _<_, _≤_}
+use Prim.Native.Nat.{ℕ, zero, suc, _+_, _*_, _<_, _≤_}
 use mathlib.Core.Path.{_≡_, refl, sym, subst}
 use mathlib.Core.List.{List, _∷_}
+use mathlib.Core.Bool.{Bool, true, false}
 use native.Mathlib.Omega.{arith}
-use lib.ListN.{length}
+use lib.ListN.{length, getD, take}
+use lib.Seq.{length-take-le, getD-take}
 use borrow.Author.Tests.{le-leb, lt-leb}
 use Rattle.rules.specs.declared.Failure.the-variants.{QueueFull}
 use Rattle.queue.specs.declared.Ring.{Ring}
@@ -12,6 +14,8 @@ use Rattle.queue.specs.declared.Joined.{Joined}
 use Rattle.queue.specs.declared.Joined.the-variants.{Full, To}
 use Rattle.machine.specs.declared.Ran.{Ran}
 use Rattle.machine.specs.declared.Ran.the-variants.{Solved, Failed}
+use Rattle.rules.specs.Lists.{those, from, below}
+use Rattle.rules.specs.Words.{EQ, has}
 use Rattle.rules.specs.Store.{fail, _>>=_}
 use Rattle.rules.specs.Machine.{join, run, steps, equations, machine}
 use Rattle.invariants.specs.Running.{Running}
@@ -20,7 +24,7 @@ use Rattle.invariants.specs.Turn.{lefts-low}
 use Rattle.promise.specs.Known.{Known}
 use Rattle.store.specs.Said.{store}
 use Rattle.queue.specs.Ring.{Fine, Some, view, view-none, Queued, Leaves, frontOf, left-view, left-fine, noPair}
-use Rattle.queue.specs.Equations.{Entering}
+use Rattle.queue.specs.Equations.{sidesOf, Entering}
 use Rattle.step.specs.Stand.{Stood}
 use Rattle.machine.specs.Run.{ended, Runs, runs-none}
 
@@ -53,39 +57,70 @@ module _ (R n : ℕ) (ws ss : List ℕ) (used : ℕ) (q : List ℕ) (cap : ℕ) 
           let k : Runs R cap ((frontOf q g .left, frontOf q g .right) ∷ view q cap g₁) ws ss used ws₁ ss₁ x = subst (λ (f : Pair). Runs R cap ((f .left, f .right) ∷ view q cap g₁) ws ss used ws₁ ss₁ x) (sym e) p in
           rw (left-view q cap g g₁ v) k
 
--- a table and solutions as they stand where the machine starts
-pub record Started (R n : ℕ) (ws ss q : List ℕ) (cap : ℕ) : Type 0 where
+-- the first k of these numbers are those of the equations, in record order
+pub record Noted (ws : List ℕ) (n : ℕ) (es : List ℕ) (k : ℕ) : Type 0 where
+  pub long : k ≤ length es
+  pub same : take k es ≡ those (λ e. has ws e EQ) (below n)
+
+-- what passes is one of the numbers
+those-low : (ok : ℕ → Bool) (i k j : ℕ) → j < length (those ok (from i k)) → getD (those ok (from i k)) j 0 < i + k
+unfolding those from
+those-low ok i zero j h = absurd (omega arith)
+those-low ok i (suc k) j h = go (ok i) refl (λ j l. those-low ok (i + 1) k j l) j h
+  where
+    go : (b : Bool) → ok i ≡ b → ((j : ℕ) → j < length (those ok (from (i + 1) k)) → getD (those ok (from (i + 1) k)) j 0 < i + 1 + k)
+        → (j : ℕ) → j < length (those ok (i ∷ from (i + 1) k)) → getD (those ok (i ∷ from (i + 1) k)) j 0 < i + suc k
+    go true e ih zero l = rw (e, those) (omega arith)
+    go true e ih (suc j) l = let l₁ : suc j < suc (length (those ok (from (i + 1) k))) = rw (e, those) at l in let z = ih j (omega arith) in rw (e, those) (omega arith)
+    go false e ih j l = let z = ih j (rw (e, those) at l) in rw (e, those) (omega arith)
+
+-- a table and solutions as they stand where the machine starts, with the equations noted
+pub record Started (R n : ℕ) (ws ss q : List ℕ) (cap : ℕ) (es : List ℕ) (k : ℕ) : Type 0 where
   pub inside : 4 * n ≤ length ws
-  pub low : n ≤ 4096
   pub room : 2 * cap ≤ length q
   pub few : cap ≤ 1024
   pub home : ℕ → ℕ
   pub running : length (equations ws n) ≤ cap → Running R cap n home (store ws ss n) (equations ws n)
   pub known : Known R (store ws ss n) (equations ws n)
+  pub noted : Noted ws n es k
 
-pub started-enters : (R n : ℕ) (ws ss q : List ℕ) (cap : ℕ) → Started R n ws ss q cap → Entering ws q cap n
-started-enters R n ws ss q cap h = record { inside = h .inside; low = h .low; room = h .room; few = h .few }
+module _ (R n : ℕ) (ws ss q : List ℕ) (cap : ℕ) (es : List ℕ) (k : ℕ) (h : Started R n ws ss q cap es k) where
+  noted-inside : (i : ℕ) → i < k → 4 * getD es i 0 + 3 < length ws
+  unfolding below
+  noted-inside i lt =
+      let s = h .noted .same in
+      let l : i < length (those (λ e. has ws e EQ) (below n)) = rw (← s, length-take-le k es (h .noted .long)) lt in
+      let z : getD es i 0 < 0 + n = rw (← getD-take k es i 0 lt, s) (those-low (λ e. has ws e EQ) 0 n i l) in
+      let a = h .inside in
+      omega arith
 
-module _ (R n : ℕ) (ws ss q : List ℕ) (cap : ℕ) (h : Started R n ws ss q cap) (q₁ : List ℕ) (x : Joined) (p : Queued q cap noPair (equations ws n) q₁ x) where
-  pub machine-full : x ≡ Full → machine R cap n (store ws ss n) ≡ ended ws ss (Failed QueueFull)
-  unfolding machine join fail _>>=_
-  machine-full e = let f = p .full e in let o : cap < 0 + length (equations ws n) = omega arith in rw (lt-leb _ _ o, join)
+  pub started-enters : Entering ws q cap es k
+  started-enters = record { room = h .room; few = h .few; long = h .noted .long; inside = noted-inside }
 
-  module _ (g : Ring) (e : x ≡ To g) where
-    seen : view q₁ cap g ≡ equations ws n
-    seen = let z = view-none q cap noPair refl in rw z at (p .to g e .seen)
+  module _ (q₁ : List ℕ) (x : Joined) (entered : Queued q cap noPair (sidesOf ws (take k es)) q₁ x) where
+    p : Queued q cap noPair (equations ws n) q₁ x
+    unfolding equations sidesOf
+    p = rw (h .noted .same) at entered
 
-    fits : length (equations ws n) ≤ cap
-    fits = let c = p .to g e .counted in let f = p .to g e .fine .count in omega arith
+    pub machine-full : x ≡ Full → machine R cap n (store ws ss n) ≡ ended ws ss (Failed QueueFull)
+    unfolding machine join fail _>>=_
+    machine-full e = let f = p .full e in let o : cap < 0 + length (equations ws n) = omega arith in rw (lt-leb _ _ o, join)
 
-    pub started-set : Set R n ws ss n q₁ cap g
-    started-set = record { home = h .home; running = rw seen (h .running fits); known = rw seen (h .known); ring = p .to g e .fine }
+    module _ (g : Ring) (e : x ≡ To g) where
+      seen : view q₁ cap g ≡ equations ws n
+      seen = let z = view-none q cap noPair refl in rw z at (p .to g e .seen)
 
-    pub machine-runs : (ws₁ ss₁ : List ℕ) (y : Ran) → Runs R cap (view q₁ cap g) ws ss n ws₁ ss₁ y → machine R cap n (store ws ss n) ≡ ended ws₁ ss₁ y
-    unfolding machine join _>>=_
-    machine-runs ws₁ ss₁ y r =
-        let f = fits in
-        let o : 0 + length (equations ws n) ≤ cap = omega arith in
-        let ru = h .running f in
-        let r₁ : Runs R cap (equations ws n) ws ss n ws₁ ss₁ y = rw seen at r in
-        rw (le-leb _ _ o, join) (r₁ .run (steps R cap) (steps-more R cap n (equations ws n) (ru .few) (lefts-low R cap n (h .home) (store ws ss n) (equations ws n) ru)))
+      fits : length (equations ws n) ≤ cap
+      fits = let c = p .to g e .counted in let f = p .to g e .fine .count in omega arith
+
+      pub started-set : Set R n ws ss n q₁ cap g
+      started-set = record { home = h .home; running = rw seen (h .running fits); known = rw seen (h .known); ring = p .to g e .fine }
+
+      pub machine-runs : (ws₁ ss₁ : List ℕ) (y : Ran) → Runs R cap (view q₁ cap g) ws ss n ws₁ ss₁ y → machine R cap n (store ws ss n) ≡ ended ws₁ ss₁ y
+      unfolding machine join _>>=_
+      machine-runs ws₁ ss₁ y r =
+          let f = fits in
+          let o : 0 + length (equations ws n) ≤ cap = omega arith in
+          let ru = h .running f in
+          let r₁ : Runs R cap (equations ws n) ws ss n ws₁ ss₁ y = rw seen at r in
+          rw (le-leb _ _ o, join) (r₁ .run (steps R cap) (steps-more R cap n (equations ws n) (ru .few) (lefts-low R cap n (h .home) (store ws ss n) (equations ws n) ru)))

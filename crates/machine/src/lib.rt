@@ -106,19 +106,21 @@ fn run(
     )
 }
 
-// All equations enter the queue, and the machine runs, on a table and solutions as they stand at its start.
+// All equations enter the queue, as they were noted, and the machine runs, on a table and solutions as they stand at its start.
 pub fn machine(
     table: &mut [u32],
     solutions: &mut [u32],
     queue: &mut [u32],
+    equations: &[u16],
+    count: usize,
     n: u32,
     room: u32,
     cap: usize,
 ) -> Ran
-    requires { ⌜ Started room n (now table) (now solutions) (now queue) cap ⌝ }
+    requires { ⌜ Started room n (now table) (now solutions) (now queue) cap (now equations) count ⌝ }
     ensures { λ x. ⌜ machineOf room cap n (store (now (table .entry)) (now (solutions .entry)) n) ≡ ended (now (table .exit)) (now (solutions .exit)) x ⌝ }
 {
-    match enter_equations(table, queue, cap, n) {
+    match enter_equations(table, queue, cap, equations, count) {
         Joined::Full => Ran::Failed(Failure::QueueFull),
         Joined::To(ring) => run(table, solutions, queue, n, n, room, cap, ring),
     }

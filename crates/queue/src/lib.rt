@@ -1,14 +1,13 @@
 // The queue of waiting pairs: a ring over the lent words, two words a pair, whose freed places are used again.
-use table::EQ;
 use table::NONE;
 use table::read;
 ghost use mathlib.Core.Path.{_≡_};
 ghost use mathlib.Core.List.{_∷_, []};
 ghost use Prim.Native.Nat.{_+_, _<_};
-ghost use Rattle.rules.specs.Machine.{equations};
+ghost use lib.ListN.{take};
 ghost use Rattle.queue.specs.Ring.{Wraps, Roomy, Some, Joins, Queued, Leaves, frontOf, noPair};
 ghost use Rattle.queue.specs.Arguments.{pairsOf, Joining};
-ghost use Rattle.queue.specs.Equations.{Entering};
+ghost use Rattle.queue.specs.Equations.{sidesOf, Entering};
 
 // The place of the first pair, and how many wait.
 pub struct Ring {
@@ -107,20 +106,24 @@ pub fn join_pairs(
     Joined::To(g)
 }
 
-// The equations among the first n records enter the queue in record order.
-pub fn enter_equations(table: &[u32], queue: &mut [u32], cap: usize, n: u32) -> Joined
-    requires { ⌜ Entering (now table) (now queue) cap n ⌝ }
-    ensures { λ x. ⌜ Queued (now (queue .entry)) cap noPair (equations (now (table .entry)) n) (now (queue .exit)) x ⌝ }
+// The equations that were noted enter the queue in order.
+pub fn enter_equations(
+    table: &[u32],
+    queue: &mut [u32],
+    cap: usize,
+    equations: &[u16],
+    count: usize,
+) -> Joined
+    requires { ⌜ Entering (now table) (now queue) cap (now equations) count ⌝ }
+    ensures { λ x. ⌜ Queued (now (queue .entry)) cap noPair (sidesOf (now (table .entry)) (take count (now (equations .entry)))) (now (queue .exit)) x ⌝ }
 {
+    if cap < count {
+        return Joined::Full;
+    }
     let mut ring = Ring { head: 0, count: 0 };
-    for e in 0..n {
-        let rec = read(table, e);
-        if rec.tag == EQ {
-            if ring.count == cap {
-                return Joined::Full;
-            }
-            ring = join(queue, cap, ring, rec.a, rec.b);
-        }
+    for i in 0..count {
+        let rec = read(table, equations[i] as u32);
+        ring = join(queue, cap, ring, rec.a, rec.b);
     }
     Joined::To(ring)
 }

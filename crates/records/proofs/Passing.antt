@@ -4,13 +4,16 @@ use mathlib.Core.Path.{_≡_, refl, sym, _∙_}
 use mathlib.Core.Bool.{Bool, true, false, not}
 use mathlib.Core.List.{List}
 use native.Mathlib.Omega.{arith}
+use borrow.Author.Tests.{not-false}
 use lib.ListN.{length}
-use Rattle.rules.specs.declared.Found.the-variants.{At, Nowhere}
 use Rattle.rules.specs.Records.{keeps, broken}
 use Rattle.laws.specs.Search.{ahead, ahead-start, ahead-on, ahead-stop, ahead-end}
 use Rattle.records.specs.Marks.{used}
 use Rattle.records.specs.Chains.{latest}
 use Rattle.records.specs.Rows.{Passed, Blank, RecordAsks, RecordSays, BrokenAsks}
+use Rattle.records.specs.declared.Pass.the-variants.{Broken, Sound}
+use Rattle.records.specs.Noting.{Noted, NoteAsks, BrokenSays}
+use Rattle.records.proofs.Noting.{noted-start}
 use Rattle.records.proofs.Uses.{marked-start}
 
 -- The start
@@ -25,31 +28,43 @@ passed-start ws ms ls la be n p = record {
 
 -- From record to record
 
--- the records below r are passed, with as many marks as before
-pub record Going (ws ms₀ ls₀ la₀ be₀ ms ls la be : List ℕ) (n r : ℕ) : Type 0 where
+-- the records below r are passed and their k equations noted, with as many marks as before
+pub record Going (ws ms₀ ls₀ la₀ be₀ es₀ ms ls la be es : List ℕ) (n r k : ℕ) : Type 0 where
+  pub asks : BrokenAsks ws ms₀ ls₀ la₀ be₀ es₀ n
   pub passed : Passed ws ms ls la be r
   pub left : broken ws n ≡ ahead n (λ i. not (keeps ws i)) r
+  pub noted : Noted ws es k r
+  pub within : r ≤ n
   pub marks : length ms ≡ length ms₀
   pub lengths : length ls ≡ length ls₀
   pub last : length la ≡ length la₀
   pub before : length be ≡ length be₀
+  pub equations : length es ≡ length es₀
 
-pub going-start : (ws ms ls la be : List ℕ) (n : ℕ) → BrokenAsks ws ms ls la be n → Going ws ms ls la be ms ls la be n 0
-going-start ws ms ls la be n p = record {
+pub going-start : (ws ms ls la be es : List ℕ) (n : ℕ) → BrokenAsks ws ms ls la be es n → Going ws ms ls la be es ms ls la be es n 0 0
+going-start ws ms ls la be es n p = record {
+  asks = p;
   passed = passed-start ws ms ls la be n (p .blank);
   left = unfold broken in ahead-start n (λ r. not (keeps ws r));
+  noted = noted-start ws es;
+  within = omega arith;
   marks = refl;
   lengths = refl;
   last = refl;
   before = refl;
+  equations = refl;
 }
 
-module _ (ws ms₀ ls₀ la₀ be₀ ms ls la be : List ℕ) (n r : ℕ) (g : Going ws ms₀ ls₀ la₀ be₀ ms ls la be n r) where
-  pub going-end : n ≤ r → Nowhere ≡ broken ws n
-  going-end h = sym (g .left ∙ ahead-end n _ r h)
+module _ (ws ms₀ ls₀ la₀ be₀ es₀ ms ls la be es : List ℕ) (n r k : ℕ) (g : Going ws ms₀ ls₀ la₀ be₀ es₀ ms ls la be es n r k) where
+  pub going-end : n ≤ r → BrokenSays ws es n (Sound k)
+  going-end h = let w = g .within in let e : r ≡ n = omega arith in record {
+    found = sym (g .left ∙ ahead-end n _ r h);
+    noted = λ j z. let q : k ≡ j = cc in rw (← q, ← e) (g .noted);
+  }
 
-  pub going-asks : BrokenAsks ws ms₀ ls₀ la₀ be₀ n → r < n → RecordAsks ws ms ls la be r
-  going-asks p h =
+  pub going-asks : r < n → RecordAsks ws ms ls la be r
+  going-asks h =
+      let p = g .asks in
       let i = p .inside in
       let f = p .few in
       let a = p .blank .room .marks in
@@ -67,17 +82,32 @@ module _ (ws ms₀ ls₀ la₀ be₀ ms ls la be : List ℕ) (n r : ℕ) (g : Go
         passed = g .passed;
       }
 
-  module _ (h : r < n) (ms₁ ls₁ la₁ be₁ : List ℕ) (b : Bool) (s : RecordSays ws ms₁ ls₁ la₁ be₁ r b) where
-    pub going-stop : b ≡ false → At r ≡ broken ws n
-    going-stop t = sym (g .left ∙ ahead-stop n _ r h (rw (← s .answer, t) refl))
+  pub going-notes : r < n → NoteAsks ws es k r
+  going-notes h =
+      let i = g .asks .inside in
+      let f = g .asks .few in
+      let a = g .asks .equations in
+      let a′ = g .equations in
+      record { inside = omega arith; low = omega arith; room = omega arith; lower = g .noted }
 
-    pub going-on : b ≡ true → length ms₁ ≡ length ms → length ls₁ ≡ length ls → length la₁ ≡ length la → length be₁ ≡ length be
-        → Going ws ms₀ ls₀ la₀ be₀ ms₁ ls₁ la₁ be₁ n (r + 1)
-    going-on t lm ll la be = record {
-      passed = s .next t;
-      left = g .left ∙ ahead-on n _ r h (rw (← s .answer, t) refl);
+  module _ (h : r < n) (ms₁ ls₁ la₁ be₁ : List ℕ) (b : Bool) (s : RecordSays ws ms₁ ls₁ la₁ be₁ r b) where
+    pub going-stop : not b ≡ true → BrokenSays ws es n (Broken r)
+    going-stop t = record {
+      found = sym (g .left ∙ ahead-stop n _ r h (rw (← s .answer) t));
+      noted = λ j z. absurd (let q : _≡_ {A = ℕ} 0 1 = cc in omega arith);
+    }
+
+    pub going-on : not b ≡ false → length ms₁ ≡ length ms → length ls₁ ≡ length ls → length la₁ ≡ length la → length be₁ ≡ length be
+        → (es₁ : List ℕ) (k₁ : ℕ) → Noted ws es₁ k₁ (r + 1) → length es₁ ≡ length es → Going ws ms₀ ls₀ la₀ be₀ es₀ ms₁ ls₁ la₁ be₁ es₁ n (r + 1) k₁
+    going-on t lm ll la be es₁ k₁ m le = record {
+      asks = g .asks;
+      passed = s .next (not-false _ t);
+      left = g .left ∙ ahead-on n _ r h (rw (← s .answer) t);
+      noted = m;
+      within = omega arith;
       marks = lm ∙ g .marks;
       lengths = ll ∙ g .lengths;
       last = la ∙ g .last;
       before = be ∙ g .before;
+      equations = le ∙ g .equations;
     }

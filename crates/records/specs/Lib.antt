@@ -1,3 +1,4 @@
 pub mod Marks  -- what the marks of lists and references mean
 pub mod Chains  -- types in chains by their b
 pub mod Rows  -- what is known of a record before and after it is looked at
+pub mod Noting  -- the equations are noted

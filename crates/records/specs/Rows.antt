@@ -66,8 +66,9 @@ pub record Blank (ms ls la be : List ℕ) (n : ℕ) : Type 0 where
   pub marks : (x : ℕ) → x < length ms → getD ms x 0 ≡ 0
   pub last : (b : ℕ) → b < length la → getD la b 0 ≡ 0
 
--- the first n records lie in the table and have blank marks
-pub record BrokenAsks (ws ms ls la be : List ℕ) (n : ℕ) : Type 0 where
+-- the first n records lie in the table and have blank marks, and there is room to note each
+pub record BrokenAsks (ws ms ls la be es : List ℕ) (n : ℕ) : Type 0 where
   pub inside : 4 * n ≤ length ws
   pub few : n ≤ 4096
   pub blank : Blank ms ls la be n
+  pub equations : n ≤ length es

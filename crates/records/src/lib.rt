@@ -3,8 +3,8 @@ use fields::Field;
 use fields::fits;
 use fields::term_tag;
 use fields::type_tag;
-use rules::Found;
 use table::CE;
+use table::EQ;
 use table::HA;
 use table::NONE;
 use table::Record;
@@ -12,10 +12,16 @@ use table::read;
 ghost use mathlib.Core.Path.{_≡_};
 ghost use Prim.Native.Nat.{_+_, _*_, _<_};
 ghost use lib.ListN.{length};
-ghost use Rattle.rules.specs.Records.{broken};
 ghost use Rattle.records.specs.Marks.{alikeTags, refersTo, counts, ListAsks, ListSays, MarkAsks, MarkSays};
 ghost use Rattle.records.specs.Chains.{equals, TypeAsks, TypeSays};
 ghost use Rattle.records.specs.Rows.{FieldAsks, FieldSays, RowAsks, RowSays, RecordAsks, RecordSays, BrokenAsks};
+ghost use Rattle.records.specs.Noting.{NoteAsks, Noted, BrokenSays};
+
+// What one pass over the records says: the lowest broken one, or how many equations there are.
+pub enum Pass {
+    Broken(u32),
+    Sound(usize),
+}
 
 // Both are tags of types, or both of terms.
 fn alike_tags(k: u32, j: u32) -> bool
@@ -199,24 +205,40 @@ fn record_keeps(
     }
 }
 
-// The lowest of the first n records that breaks a rule, with blank marks for each of them.
+// Record r is noted if it is an equation; how many are noted then.
+fn note(table: &[u32], equations: &mut [u16], count: usize, r: u32) -> usize
+    requires { ⌜ NoteAsks (now table) (now equations) count r ⌝ }
+    ensures { λ k. ⌜ Noted (now (table .entry)) (now (equations .exit)) k (r + 1) ⌝ }
+{
+    let x = read(table, r);
+    if x.tag != EQ {
+        return count;
+    }
+    equations[count] = r as u16;
+    count + 1
+}
+
+// The lowest of the first n records that breaks a rule, with blank marks for each of them; otherwise the equations are noted.
 pub fn broken(
     table: &[u32],
     marks: &mut [u8],
     lengths: &mut [u8],
     last: &mut [u16],
     before: &mut [u16],
+    equations: &mut [u16],
     n: u32,
-) -> Found
-    requires { ⌜ BrokenAsks (now table) (now marks) (now lengths) (now last) (now before) n ⌝ }
-    ensures { λ r. ⌜ r ≡ broken (now (table .entry)) n ⌝ }
+) -> Pass
+    requires { ⌜ BrokenAsks (now table) (now marks) (now lengths) (now last) (now before) (now equations) n ⌝ }
+    ensures { λ x. ⌜ BrokenSays (now (table .entry)) (now (equations .exit)) n x ⌝ }
 {
     let mut r = 0;
+    let mut count = 0;
     while r < n {
         if !record_keeps(table, marks, lengths, last, before, r) {
-            return Found::At(r);
+            return Pass::Broken(r);
         }
+        count = note(table, equations, count, r);
         r += 1;
     }
-    Found::Nowhere
+    Pass::Sound(count)
 }

@@ -1,5 +1,6 @@
 pub mod Clearing  -- where the machine starts, and starts again
 pub mod Running  -- the machine on an admitted input, and what it leaves behind
+pub mod Leaving  -- what is refused, and what is admitted
 pub mod Answering  -- a hole's answer after solving
 pub mod Used  -- a reply's used is at most 4,096
 pub mod Single  -- two replies that the promises allow are equal

@@ -1,49 +1,46 @@
 -- The machine on an admitted input, and what it leaves behind.
 use Prim.Native.Nat.{ℕ, zero, suc, _+_, _-_, _*_, _<_, _≤_}
 use mathlib.Core.Path.{_≡_, refl, sym, ap, _∙_}
-use mathlib.Core.List.{List, []}
-use mathlib.Core.Bool.{Bool, true}
+use mathlib.Core.List.{List, [], _∷_}
+use mathlib.Core.Bool.{Bool, true, false}
 use native.Mathlib.Omega.{arith}
 use native.Mathlib.Nat.{mul-pos}
 use lib.ListN.{length}
-use mir.Syntax.{w32}
-use mir.Val.{Fits}
 use borrow.Author.Tests.{le-leb}
 use borrow.Rule.Slice.PartMut.{putMid, midOf, mid-len}
 use Rattle.rules.specs.declared.Failure.{Failure}
 use Rattle.rules.specs.declared.Failure.the-variants.{Clash, Escape, Occurs, QueueFull, TableFull}
 use Rattle.rules.specs.declared.Reply.{Reply}
-use Rattle.rules.specs.Words.{NONE}
+use Rattle.rules.specs.Words.{NONE, EQ, has}
 use Rattle.rules.specs.Lists.{those, from, below}
 use Rattle.rules.specs.Answers.{number, reply, records, pairs}
 use Rattle.rules.specs.Store.{Store, goes, fails, _>>=_}
 use Rattle.rules.specs.Machine.{join, run, steps, equations, machine}
 use Rattle.rules.specs.Solve.{admitted, refusal, filled, start, emptied, Behind, leaves, solve}
 use Rattle.invariants.specs.Floor.{Outside, Grows}
-use Rattle.invariants.specs.Start.{records-few, records-room, start-running}
-use Rattle.invariants.specs.Admit.{Admitted, refusal-says}
+use Rattle.invariants.specs.Start.{records-few, records-room, filled-below, start-running}
+use Rattle.invariants.specs.Admit.{Admitted}
 use Rattle.invariants.specs.Machine.{machine-grows}
 use Rattle.invariants.specs.Run.{Any}
 use Rattle.invariants.specs.Copy.{Nobody}
-use Rattle.promise.specs.Admitting.{Admitted as Typed, admitted-is}
+use Rattle.promise.specs.Admitting.{Admitted as Typed}
 use Rattle.promise.specs.Known.{known-start}
 use Rattle.store.specs.Said.{store}
 use Rattle.fill.specs.Filled.{filled-put, filled-again}
 use Rattle.refuse.specs.declared.Asked.the-variants.{Solving}
-use Rattle.refuse.specs.declared.Refusal.{Refusal}
-use Rattle.refuse.specs.declared.Refusal.the-variants.{Admitted as Admits-all, Refused}
-use Rattle.refuse.specs.Refusing.{asks, refusalOf}
+use Rattle.refuse.specs.Refusing.{asks}
 use Rattle.machine.specs.declared.Ran.{Ran}
 use Rattle.machine.specs.declared.Ran.the-variants.{Solved, Failed}
 use Rattle.machine.specs.Run.{ended}
-use Rattle.machine.specs.Start.{Started}
+use Rattle.machine.specs.Start.{Noted, Started}
 use Rattle.solver.specs.Clearing.{Clearing, Cleared, clearing-on, clearing-table, clearing-solutions, pairs-held}
 
--- an admitted input, in R records
-pub record Admits (R n : ℕ) (ws ss : List ℕ) : Type 0 where
+-- an admitted input, in R records, with the equations noted
+pub record Admits (R n : ℕ) (ws ss es : List ℕ) (k : ℕ) : Type 0 where
   pub input : Admitted true ws ss n
   pub typed : Typed ws ss n
   pub room : records ws ≡ R
+  pub noted : Noted ws n es k
 
 -- what the machine comes to; of the queue only the first C pairs are written
 pub record Machines (R C n : ℕ) (ws ss qs ws₁ ss₁ qs₁ : List ℕ) (x : Ran) : Type 0 where
@@ -93,12 +90,12 @@ module _ (n R : ℕ) (ws ss : List ℕ) (x : Ran) where
       }
 
 -- the part of the queue that is lent on
-module _ (R C n : ℕ) (ws ss qs : List ℕ) (h : Started R n ws ss qs C) where
+module _ (R C n : ℕ) (ws ss qs es : List ℕ) (k : ℕ) (h : Started R n ws ss qs C es k) where
   part-length : length (midOf 0 (2 * C - 0) qs) ≡ 2 * C
   part-length = let k : 2 * C - 0 ≡ 2 * C = omega arith in mid-len 0 (2 * C) qs (h .room) ∙ k
 
-  pub started-part : Started R n ws ss (midOf 0 (2 * C - 0) qs) C
-  started-part = let l = part-length in record { inside = h .inside; low = h .low; room = omega arith; few = h .few; home = h .home; running = h .running; known = h .known }
+  pub started-part : Started R n ws ss (midOf 0 (2 * C - 0) qs) C es k
+  started-part = let l = part-length in record { inside = h .inside; room = omega arith; few = h .few; home = h .home; running = h .running; known = h .known; noted = h .noted }
 
   pub machines : (ws₁ ss₁ part : List ℕ) (x : Ran) → machine R C n (store ws ss n) ≡ ended ws₁ ss₁ x → length part ≡ length (midOf 0 (2 * C - 0) qs)
       → Machines R C n ws ss qs ws₁ ss₁ (putMid 0 (2 * C - 0) qs part) x
@@ -123,7 +120,25 @@ machine-none R C s =
     let le : 0 + 0 ≤ C = omega arith in
     rw (le-leb _ _ le, join) (run-none R C (steps R C) s (steps-some R C))
 
-module _ (R n : ℕ) (ws ss : List ℕ) (a : Admits R n ws ss) where
+-- as many records are given as before, with the same tags: the same equations
+those-same : (ok ok₁ : ℕ → Bool) (i k : ℕ) → ((e : ℕ) → e < i + k → ok e ≡ ok₁ e) → those ok (from i k) ≡ those ok₁ (from i k)
+unfolding those from
+those-same ok ok₁ i zero h = refl
+those-same ok ok₁ i (suc k) h = go (ok₁ i) refl (h i (omega arith)) (those-same ok ok₁ (i + 1) k (λ e l. h e (omega arith)))
+  where
+    go : (b : Bool) → ok₁ i ≡ b → ok i ≡ ok₁ i → those ok (from (i + 1) k) ≡ those ok₁ (from (i + 1) k) → those ok (i ∷ from (i + 1) k) ≡ those ok₁ (i ∷ from (i + 1) k)
+    go true e q ih = rw (q, e, those) (ap (i ∷_) ih)
+    go false e q ih = rw (q, e, those) ih
+
+noted-cleared : (n R : ℕ) (ws ss ws₀ ss₀ es : List ℕ) (k : ℕ) → Clearing n R ws ss → Cleared n R ws ss ws₀ ss₀ → Noted ws n es k → Noted ws₀ n es k
+unfolding has below
+noted-cleared n R ws ss ws₀ ss₀ es k h c d =
+    let t = h .in-table in
+    let r = h .room in
+    let same : (e : ℕ) → e < 0 + n → has ws e EQ ≡ has ws₀ e EQ = λ e l. rw (← c .table, filled-below (4 * n) (4 * (R - n)) 0 (4 * e) ws (omega arith) (omega arith)) in
+    record { long = d .long; same = d .same ∙ those-same (λ e. has ws e EQ) (λ e. has ws₀ e EQ) 0 n same }
+
+module _ (R n : ℕ) (ws ss es : List ℕ) (k : ℕ) (a : Admits R n ws ss es k) where
   pub admits-clearing : Clearing n R ws ss
   admits-clearing =
       let z = a .room in
@@ -140,7 +155,7 @@ module _ (R n : ℕ) (ws ss : List ℕ) (a : Admits R n ws ss) where
   unfolding start
   start-is ws₀ ss₀ c = rw (a .room, c .table, c .solutions)
 
-  pub admits-started : (C : ℕ) (qs ws₀ ss₀ : List ℕ) → Cleared n R ws ss ws₀ ss₀ → length ws₀ ≡ length ws → pairs qs ≡ C → Started R n ws₀ ss₀ qs C
+  pub admits-started : (C : ℕ) (qs ws₀ ss₀ : List ℕ) → Cleared n R ws ss ws₀ ss₀ → length ws₀ ≡ length ws → pairs qs ≡ C → Started R n ws₀ ss₀ qs C es k
   unfolding pairs
   admits-started C qs ws₀ ss₀ c l p =
       let h = admits-clearing in
@@ -150,12 +165,12 @@ module _ (R n : ℕ) (ws ss : List ℕ) (a : Admits R n ws ss) where
       let i = a .input in
       record {
         inside = omega arith;
-        low = omega arith;
         room = pairs-held qs C p;
         few = omega arith;
         home = λ i. 0;
         running = rw (a .room, start-is ws₀ ss₀ c) at (start-running ws ss n (i .sound) (i .in-table) (i .held) C);
         known = rw (a .room, start-is ws₀ ss₀ c) at (known-start ws ss n (a .typed));
+        noted = noted-cleared n R ws ss ws₀ ss₀ es k admits-clearing c (a .noted);
       }
 
   -- where the machine fails, table and solutions are cleared again
@@ -194,24 +209,6 @@ module _ (R n : ℕ) (ws ss : List ℕ) (a : Admits R n ws ss) where
           let w₁ : ws₀ ≡ ws₂ = sym (o .table ∙ w) ∙ k .0 .table in
           let v₁ : ss₀ ≡ ss₂ = sym (o .solutions ∙ v) ∙ k .0 .solutions in
           rw (out (Failed f) z, leaves, q, start-is ws₀ ss₀ c, k .1, w₁, v₁)
-
--- what is refused, and what is not
-module _ (b : Bool) (ws ss qs : List ℕ) (n : ℕ) (x : Refusal) (e : refusal b ws ss n ≡ refusalOf x) where
-  pub left-refused : (k p : ℕ) → x ≡ Refused k p → leaves (refusal b ws ss n) ws ss qs n ≡ record { table = ws; solutions = ss; queue = qs; said = reply k p 0 }
-  unfolding leaves
-  left-refused k p z = rw (e, z)
-
-  pub admits : (R : ℕ) → records ws ≡ R → x ≡ Admits-all → Admits R n ws ss
-  admits R r z =
-      let a : Admitted b ws ss n = rw (e, z) at (refusal-says b ws ss n) in
-      let t : refusal true ws ss n ≡ admitted = ap (λ (x : Bool). refusal x ws ss n) (sym (a .is)) ∙ e ∙ ap refusalOf z in
-      record { input = record { is = refl; in-table = a .in-table; held = a .held; sound = a .sound }; typed = admitted-is ws ss n t; room = r }
-
-  pub admits-fits : x ≡ Admits-all → Fits w32 n
-  admits-fits z = let a = admits _ refl z .input .in-table in let f = records-few ws in record { fits = omega arith }
-
-  pub left-admitted : (l : Behind) → x ≡ Admits-all → leaves admitted ws ss qs n ≡ l → leaves (refusal b ws ss n) ws ss qs n ≡ l
-  left-admitted l z h = rw (e, z) h
 
 pub solves : (ws ss qs : List ℕ) (n : ℕ) (l : Behind) → leaves (refusal (asks Solving ws n) ws ss n) ws ss qs n ≡ l → solve ws ss qs n ≡ l
 unfolding solve asks

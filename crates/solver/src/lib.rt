@@ -4,6 +4,7 @@ use machine::Ran;
 use machine::machine;
 use refuse::Asked;
 use refuse::Refusal;
+use refuse::out_of_room;
 use refuse::refuse;
 use refuse::room_of;
 use rules::Failure;
@@ -19,9 +20,10 @@ ghost use Rattle.rules.specs.Answers.{pairs, number};
 ghost use Rattle.rules.specs.Solve.{admitted, refusal, leaves, solve as solveOf};
 ghost use Rattle.rules.specs.Show.{show as showOf};
 ghost use Rattle.machine.specs.Start.{Started};
-ghost use Rattle.refuse.specs.Refusing.{asks};
+ghost use Rattle.refuse.specs.Refusing.{asks, refusalOf};
 ghost use Rattle.solver.specs.Clearing.{Clearing, Cleared};
 ghost use Rattle.solver.specs.Running.{Machines, Concludes, Admits};
+ghost use Rattle.solver.specs.Leaving.{Inside, Checking, Settling};
 ghost use Rattle.solver.specs.Answering.{Answerable, Writes, Finishes};
 
 // C: the length divided by 2, rounded down, at most 1,024.
@@ -64,15 +66,26 @@ fn run_machine(
     table: &mut [u32],
     solutions: &mut [u32],
     queue: &mut [u32],
+    equations: &[u16],
+    count: usize,
     n: u32,
     room: u32,
     cap: usize,
 ) -> Ran
-    requires { ⌜ Started room n (now table) (now solutions) (now queue) cap ⌝ }
+    requires { ⌜ Started room n (now table) (now solutions) (now queue) cap (now equations) count ⌝ }
     ensures { λ r. ⌜ Machines room cap n (now (table .entry)) (now (solutions .entry)) (now (queue .entry)) (now (table .exit)) (now (solutions .exit)) (now (queue .exit)) r ⌝ }
 {
     let end = 2 * cap;
-    machine(table, solutions, &mut queue[0..end], n, room, cap)
+    machine(
+        table,
+        solutions,
+        &mut queue[0..end],
+        equations,
+        count,
+        n,
+        room,
+        cap,
+    )
 }
 
 // The reply to what the machine came to; a failure leaves table and solutions cleared.
@@ -98,19 +111,162 @@ fn conclude(table: &mut [u32], solutions: &mut [u32], n: u32, room: u32, ran: Ra
 }
 
 // An admitted input: the machine runs from a cleared table, and the queue is emptied.
-fn run(table: &mut [u32], solutions: &mut [u32], queue: &mut [u32], n: u32, room: u32) -> Reply
-    requires { ⌜ Admits room n (now table) (now solutions) ⌝ }
+fn run(
+    table: &mut [u32],
+    solutions: &mut [u32],
+    queue: &mut [u32],
+    equations: &[u16],
+    count: usize,
+    n: u32,
+    room: u32,
+) -> Reply
+    requires { ⌜ Admits room n (now table) (now solutions) (now equations) count ⌝ }
     ensures { λ r. ⌜ leaves admitted (now (table .entry)) (now (solutions .entry)) (now (queue .entry)) n ≡ record { table = now (table .exit); solutions = now (solutions .exit); queue = now (queue .exit); said = r } ⌝ }
 {
     let cap = pairs_of(queue);
     clear(table, solutions, n, room);
-    let ran = run_machine(table, solutions, queue, n, room, cap);
+    let ran = run_machine(table, solutions, queue, equations, count, n, room, cap);
     let reply = conclude(table, solutions, n, room, ran);
     fill(queue, 0, 2 * cap, 0);
     reply
 }
 
-// A refusal writes nothing; otherwise the machine runs.
+// A refusal writes nothing; otherwise the machine runs with the equations that were noted.
+fn settle(
+    table: &mut [u32],
+    n: u32,
+    solutions: &mut [u32],
+    queue: &mut [u32],
+    equations: &[u16],
+    refusal: Refusal,
+) -> Reply
+    requires { ⌜ Settling (now table) (now solutions) (now equations) n refusal ⌝ }
+    ensures { λ r. ⌜ leaves (refusalOf refusal) (now (table .entry)) (now (solutions .entry)) (now (queue .entry)) n ≡ record { table = now (table .exit); solutions = now (solutions .exit); queue = now (queue .exit); said = r } ⌝ }
+{
+    match refusal {
+        Refusal::Refused { answer, place } => Reply {
+            answer,
+            place,
+            used: 0,
+        },
+        Refusal::Admitted { count } => {
+            let room = room_of(table);
+            run(table, solutions, queue, equations, count, n, room)
+        }
+    }
+}
+
+// Answers 5, 10, 6 and 7, and otherwise the machine.
+fn leave_checked(
+    table: &mut [u32],
+    n: u32,
+    solutions: &mut [u32],
+    queue: &mut [u32],
+    marks: &mut [u8],
+    lengths: &mut [u8],
+    last: &mut [u16],
+    before: &mut [u16],
+    equations: &mut [u16],
+    asked: Asked,
+) -> Reply
+    requires { ⌜ Checking (now table) (now solutions) (now marks) (now lengths) (now last) (now before) (now equations) n ⌝ }
+    ensures { λ r. ⌜ leaves (refusal (asks asked (now (table .entry)) n) (now (table .entry)) (now (solutions .entry)) n) (now (table .entry)) (now (solutions .entry)) (now (queue .entry)) n ≡ record { table = now (table .exit); solutions = now (solutions .exit); queue = now (queue .exit); said = r } ⌝ }
+{
+    let refusal = refuse(table, marks, lengths, last, before, equations, n, asked);
+    settle(table, n, solutions, queue, equations, refusal)
+}
+
+// At most 64 records.
+fn leave_small(
+    table: &mut [u32],
+    n: u32,
+    solutions: &mut [u32],
+    queue: &mut [u32],
+    asked: Asked,
+) -> Reply
+    requires { ⌜ Inside 64 (now table) (now solutions) n ⌝ }
+    ensures { λ r. ⌜ leaves (refusal (asks asked (now (table .entry)) n) (now (table .entry)) (now (solutions .entry)) n) (now (table .entry)) (now (solutions .entry)) (now (queue .entry)) n ≡ record { table = now (table .exit); solutions = now (solutions .exit); queue = now (queue .exit); said = r } ⌝ }
+{
+    let mut marks = [0u8; 64];
+    let mut lengths = [0u8; 64];
+    let mut last = [0u16; 64];
+    let mut before = [0u16; 64];
+    let mut equations = [0u16; 64];
+    leave_checked(
+        table,
+        n,
+        solutions,
+        queue,
+        &mut marks,
+        &mut lengths,
+        &mut last,
+        &mut before,
+        &mut equations,
+        asked,
+    )
+}
+
+// At most 512 records.
+fn leave_middle(
+    table: &mut [u32],
+    n: u32,
+    solutions: &mut [u32],
+    queue: &mut [u32],
+    asked: Asked,
+) -> Reply
+    requires { ⌜ Inside 512 (now table) (now solutions) n ⌝ }
+    ensures { λ r. ⌜ leaves (refusal (asks asked (now (table .entry)) n) (now (table .entry)) (now (solutions .entry)) n) (now (table .entry)) (now (solutions .entry)) (now (queue .entry)) n ≡ record { table = now (table .exit); solutions = now (solutions .exit); queue = now (queue .exit); said = r } ⌝ }
+{
+    let mut marks = [0u8; 512];
+    let mut lengths = [0u8; 512];
+    let mut last = [0u16; 512];
+    let mut before = [0u16; 512];
+    let mut equations = [0u16; 512];
+    leave_checked(
+        table,
+        n,
+        solutions,
+        queue,
+        &mut marks,
+        &mut lengths,
+        &mut last,
+        &mut before,
+        &mut equations,
+        asked,
+    )
+}
+
+// At most 4,096 records.
+fn leave_large(
+    table: &mut [u32],
+    n: u32,
+    solutions: &mut [u32],
+    queue: &mut [u32],
+    asked: Asked,
+) -> Reply
+    requires { ⌜ Inside 4096 (now table) (now solutions) n ⌝ }
+    ensures { λ r. ⌜ leaves (refusal (asks asked (now (table .entry)) n) (now (table .entry)) (now (solutions .entry)) n) (now (table .entry)) (now (solutions .entry)) (now (queue .entry)) n ≡ record { table = now (table .exit); solutions = now (solutions .exit); queue = now (queue .exit); said = r } ⌝ }
+{
+    let mut marks = [0u8; 4096];
+    let mut lengths = [0u8; 4096];
+    let mut last = [0u16; 4096];
+    let mut before = [0u16; 4096];
+    let mut equations = [0u16; 4096];
+    leave_checked(
+        table,
+        n,
+        solutions,
+        queue,
+        &mut marks,
+        &mut lengths,
+        &mut last,
+        &mut before,
+        &mut equations,
+        asked,
+    )
+}
+
+// Answer 4 writes nothing; otherwise arrays of one of three sizes: small problems clear small arrays.
 fn leave(
     table: &mut [u32],
     n: usize,
@@ -120,17 +276,20 @@ fn leave(
 ) -> Reply
     ensures { λ r. ⌜ leaves (refusal (asks asked (now (table .entry)) n) (now (table .entry)) (now (solutions .entry)) n) (now (table .entry)) (now (solutions .entry)) (now (queue .entry)) n ≡ record { table = now (table .exit); solutions = now (solutions .exit); queue = now (queue .exit); said = r } ⌝ }
 {
-    match refuse(table, solutions, n, asked) {
-        Refusal::Refused { answer, place } => Reply {
-            answer,
-            place,
+    if out_of_room(table, solutions, n) {
+        return Reply {
+            answer: 4,
+            place: 0,
             used: 0,
-        },
-        Refusal::Admitted => {
-            let room = room_of(table);
-            run(table, solutions, queue, n as u32, room)
-        }
+        };
     }
+    if n <= 64 {
+        return leave_small(table, n as u32, solutions, queue, asked);
+    }
+    if n <= 512 {
+        return leave_middle(table, n as u32, solutions, queue, asked);
+    }
+    leave_large(table, n as u32, solutions, queue, asked)
 }
 
 // Solving the first n records of a table, with solution and queue words.

@@ -3,17 +3,17 @@ use Prim.Native.Nat.{ℕ, _+_, _<_, _≤_, min}
 use mathlib.Core.Path.{_≡_}
 use mathlib.Core.List.{List}
 use mathlib.Core.Bool.{Bool, true, false, not}
-use lib.ListN.{length, getD}
+use lib.ListN.{length, getD, take}
 use lib.Dec.{eqb, ltb}
-use Rattle.rules.specs.Lists.{both, each, enough}
-use Rattle.rules.specs.Words.{NONE, EQ, fieldA, has, isTerm, elements, bare}
+use Rattle.rules.specs.Lists.{both, each, those, below, enough}
+use Rattle.rules.specs.Words.{NONE, EQ, tag, fieldA, has, isTerm, elements, bare}
 use Rattle.rules.specs.Typing.{finalType, domains, fills, checks, typed}
 use Rattle.laws.specs.Lists.{size}
 use Rattle.laws.specs.Members.{Legal, Every}
 use Rattle.laws.specs.Places.{TypeAt, TermAt, ListAt}
 use Rattle.typing.specs.declared.Final.{Final}
 use Rattle.typing.specs.Stack.{binders}
-use Rattle.typing.specs.Offences.{reached}
+use Rattle.typing.specs.Offences.{sides}
 
 -- a hole's argument is a bare variable of exactly the type asked
 unfoldable pub named : List ℕ → List ℕ → ℕ → ℕ → Bool
@@ -26,10 +26,6 @@ applies ws ctx ty l head = both (eqb (finalType enough ws head) ty) (each (check
 -- list l fills a context
 unfoldable pub filled : List ℕ → List ℕ → ℕ → ℕ → Bool
 filled ws ctx l context = each (fills (checks enough ws) ws ctx) (elements ws l) (elements ws context)
-
--- equation e has a side that does not check
-unfoldable pub fails : List ℕ → ℕ → Bool
-fails ws e = both (has ws e EQ) (not (typed ws e))
 
 -- a head's final type, and how many arguments it asks
 pub record IsFinal (ws : List ℕ) (ty : ℕ) (x : Final) : Type 0 where
@@ -54,18 +50,22 @@ pub record ArgsAsk (Held : ℕ → Type 0) (ws st : List ℕ) (low d l x : ℕ) 
   pub room : d + size l ≤ length st
   pub few : low ≤ NONE
 
--- a record of a legal table, and room for the binders of each term
+-- an equation of a legal table, and room for the binders of each term
 pub record EquationAsks (ws st : List ℕ) (low e : ℕ) : Type 0 where
   pub top : ℕ
   pub legal : Legal ws top
   pub within : e < top
+  pub is : tag ws e ≡ EQ
   pub room : top ≤ length st
   pub few : low ≤ NONE
 
--- a legal table, and room for the binders of each term
-pub record JudgeAsks (ws st : List ℕ) (n : ℕ) : Type 0 where
-  pub legal : Legal ws n
-  pub room : n ≤ length st
+-- a legal table, its equations noted, and room for the binders of each term
+pub record JudgeAsks (ws st es : List ℕ) (k : ℕ) : Type 0 where
+  pub top : ℕ
+  pub legal : Legal ws top
+  pub room : top ≤ length st
+  pub held : k ≤ length es
+  pub noted : take k es ≡ those (λ e. has ws e EQ) (below top)
 
 -- a check's answer b; the first d binders stay; if it passes, the lowest offending occurrence so far counts those within
 pub record Told (d : ℕ) (so : Bool) (off : ℕ) (st : List ℕ) (low : ℕ) (st₁ : List ℕ) (low₁ : ℕ) (b : Bool) : Type 0 where
@@ -73,7 +73,7 @@ pub record Told (d : ℕ) (so : Bool) (off : ℕ) (st : List ℕ) (low : ℕ) (s
   pub keeps : binders st₁ d ≡ binders st d
   pub lowest : b ≡ true → low₁ ≡ min low off
 
--- the same of record e
+-- the same of equation e, which fails if a side does not check
 pub record Offends (ws : List ℕ) (e low low₁ : ℕ) (b : Bool) : Type 0 where
-  pub says : b ≡ fails ws e
-  pub lowest : b ≡ false → low₁ ≡ min low (reached ws e)
+  pub says : b ≡ not (typed ws e)
+  pub lowest : b ≡ false → low₁ ≡ min low (sides ws e)

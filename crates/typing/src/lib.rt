@@ -4,7 +4,6 @@ use patterns::offended;
 use rules::Found;
 use table::AR;
 use table::CA;
-use table::EQ;
 use table::LA;
 use table::NONE;
 use table::VA;
@@ -21,7 +20,7 @@ ghost use Rattle.laws.specs.Places.{TypeAt, ListAt};
 ghost use Rattle.typing.specs.Stack.{binders, typeOf};
 ghost use Rattle.typing.specs.Offences.{among-terms};
 ghost use Rattle.typing.specs.Asks.{named, applies, filled, IsFinal, TermAsks, ArgsAsk, EquationAsks, JudgeAsks, Told, Offends};
-ghost use Rattle.typing.specs.Judging.{judged};
+ghost use Rattle.typing.specs.Judging.{Judges};
 
 // A head's final type, and how many arguments it asks.
 pub struct Final {
@@ -211,33 +210,31 @@ fn check_fills(
     rest == NONE
 }
 
-// Record e is an equation with a side that does not check.
+// Equation e has a side that does not check.
 fn offends(table: &[u32], stack: &mut [u16], low: &mut u32, e: u32) -> bool
     requires { ⌜ EquationAsks (now table) (now stack) (now low) e ⌝ }
     ensures { λ b. ⌜ Offends (now (table .entry)) e (now (low .entry)) (now (low .exit)) b ⌝ }
 {
     let x = read(table, e);
-    if x.tag != EQ {
-        return false;
-    }
     if check_term(table, stack, low, 0, x.a, x.c) {
         return !check_term(table, stack, low, 0, x.b, x.c);
     }
     true
 }
 
-// The first n records are judged, 6 before 7, with room on the stack for the binders of each term.
-pub fn judge(table: &[u32], stack: &mut [u16], n: u32) -> Judged
-    requires { ⌜ JudgeAsks (now table) (now stack) n ⌝ }
-    ensures { λ r. ⌜ r ≡ judged (now (table .entry)) n ⌝ }
+// The equations, which are noted, are judged, 6 before 7, with room on the stack for the binders of each term.
+pub fn judge(table: &[u32], stack: &mut [u16], equations: &[u16], count: usize) -> Judged
+    requires { ⌜ JudgeAsks (now table) (now stack) (now equations) count ⌝ }
+    ensures { λ r. ⌜ Judges (now (table .entry)) (now (equations .entry)) count r ⌝ }
 {
     let mut low = NONE;
-    let mut e = 0;
-    while e < n {
+    let mut i = 0;
+    while i < count {
+        let e = equations[i] as u32;
         if offends(table, stack, &mut low, e) {
             return Judged::IllTyped(e);
         }
-        e += 1;
+        i += 1;
     }
     if low == NONE {
         return Judged::Fine;

@@ -1,12 +1,13 @@
 -- `refuse::refuse` meets its contract.
-use Rattle.refuse.specs.Refusing.{above-room, few-solutions, all-admitted, in-table}
+use Rattle.refuse.specs.Refusing.{broken-at, none-broken, asked-asks}
 use borrow.Author.Needs.{needs}
 use Rattle.refuse.proofs.refuse.Statement.{statement}
 use Rattle.refuse.proofs.refuse.Tie as tie
-use Rattle.refuse.proofs.refuse.Reads as reads
-use Rattle.refuse.proofs.refuse.Lts as lts
-use Rattle.refuse.proofs.refuse_sized.Reads as refuse-sized-reads
-use Rattle.refuse.proofs.room_of.Reads as room-of-reads
+
+asked-requires : tie.Need-refuse-asked-requires
+asked-requires c κs =
+    let passed = c .before .before .before .before .before .before .before .before .before .before .before .before .before .before .before .broken in
+    asked-asks _ _ _ _ (passed .ensures) _ _ _ _ _ (c .before .before .before .before .before .before .before .before .before .before .before .before .before .before .before .before .before .before .before .before .before .before .before .before .before .before .before .pre) (passed .kept .1 .1 .1 .1 .1 .0) _ (c .before .before .before .count .given .1) _ (passed .kept .1 .1 .1 .0)
 
 pub refuse-spec : {M : Type 1} → statement M
 refuse-spec =
@@ -14,8 +15,17 @@ refuse-spec =
     (tie.spec
     (λ c κs. search needs)
     (λ c. search needs)
-    (λ c. search above-room)
-    (λ c. search few-solutions)
     (λ c. search needs)
-    (λ c κs. in-table _ _ _ (c .before .before .room-of .ensures) (c .before .if1 .left))
-    (λ c. search all-admitted))
+    asked-requires
+    (λ c. search needs)
+    (λ c. search needs)
+    (λ c. search needs)
+    (λ c. search needs)
+    (λ c. search needs)
+    (λ c. search broken-at)
+    (λ c. search needs)
+    (λ c. search needs)
+    (λ c. search needs)
+    (λ c. search needs)
+    (λ c. search needs)
+    (λ c. search none-broken))

@@ -1,13 +1,14 @@
 -- `solver::leave` meets its contract.
-use Rattle.solver.specs.Running.{admits, admits-fits, left-refused, left-admitted}
+use Rattle.solver.specs.Leaving.{left-outside, inside-fits, inside-few, inside-most}
 use borrow.Author.Needs.{needs}
 use Rattle.solver.proofs.leave.Statement.{statement}
 use Rattle.solver.proofs.leave.Tie as tie
 use Rattle.solver.proofs.leave.Reads as reads
 use Rattle.solver.proofs.leave.Lts as lts
-use Rattle.refuse.proofs.refuse.Reads as refuse-reads
-use Rattle.refuse.proofs.room_of.Reads as room-of-reads
-use Rattle.solver.proofs.run.Reads as run-reads
+use Rattle.refuse.proofs.out_of_room.Reads as out-of-room-reads
+use Rattle.solver.proofs.leave_small.Reads as leave-small-reads
+use Rattle.solver.proofs.leave_middle.Reads as leave-middle-reads
+use Rattle.solver.proofs.leave_large.Reads as leave-large-reads
 
 pub leave-spec : {M : Type 1} → statement M
 leave-spec =
@@ -16,13 +17,22 @@ leave-spec =
     (λ c κs. search needs)
     (λ c. search needs)
     (λ c. search needs)
-    (λ c κs. search needs)
-    (λ c. search admits-fits)
-    (λ c κs. search admits)
-    (λ c. search needs)
-    (λ c. search needs)
-    (λ c. search (left-refused, left-admitted))
+    (λ c. search left-outside)
+    (λ c. search inside-fits)
+    (λ c κs. inside-few _ _ _ _ (c .before .before .before .before .before .out-of-room .ensures) (c .before .before .before .before .if1 .left) 64 (c .before .before .before .if2 .taken))
     (λ c. search needs)
     (λ c. search needs)
     (λ c. search needs)
-    (λ c. search (left-refused, left-admitted)))
+    (λ c. search needs)
+    (λ c. search inside-fits)
+    (λ c κs. inside-few _ _ _ _ (c .before .before .before .before .before .before .out-of-room .ensures) (c .before .before .before .before .before .if1 .left) 512 (c .before .before .before .if3 .taken))
+    (λ c. search needs)
+    (λ c. search needs)
+    (λ c. search needs)
+    (λ c. search needs)
+    (λ c. search inside-fits)
+    (λ c κs. inside-most _ _ _ _ (c .before .before .before .before .before .before .out-of-room .ensures) (c .before .before .before .before .before .if1 .left))
+    (λ c. search needs)
+    (λ c. search needs)
+    (λ c. search needs)
+    (λ c. search needs))

@@ -1,0 +1,34 @@
+-- The equations are noted in record order.
+use Prim.Native.Nat.{ℕ, _+_, _*_, _<_, _≤_}
+use mathlib.Core.Path.{_≡_}
+use mathlib.Core.List.{List}
+use lib.ListN.{length, take}
+use Rattle.rules.specs.declared.Found.{Found}
+use Rattle.rules.specs.declared.Found.the-variants.{At, Nowhere}
+use Rattle.rules.specs.Lists.{those, below}
+use Rattle.rules.specs.Words.{EQ, has}
+use Rattle.rules.specs.Records.{broken}
+use Rattle.records.specs.declared.Pass.{Pass}
+use Rattle.records.specs.declared.Pass.the-variants.{Broken, Sound}
+
+-- the first k of the notes are the equations among the first r records
+pub record Noted (ws es : List ℕ) (k r : ℕ) : Type 0 where
+  pub noted : take k es ≡ those (λ e. has ws e EQ) (below r)
+  pub few : k ≤ r
+
+-- record r lies in the table, can be noted, and the lower equations are
+pub record NoteAsks (ws es : List ℕ) (k r : ℕ) : Type 0 where
+  pub inside : 4 * r + 3 < length ws
+  pub low : r < 4096
+  pub room : r < length es
+  pub lower : Noted ws es k r
+
+-- where a pass found a broken record
+abbrev pub foundOf : Pass → Found
+foundOf (Broken r) = At r
+foundOf (Sound k) = Nowhere
+
+-- the lowest broken record; where there is none, all equations are noted
+pub record BrokenSays (ws es : List ℕ) (n : ℕ) (x : Pass) : Type 0 where
+  pub found : foundOf x ≡ broken ws n
+  pub noted : (k : ℕ) → x ≡ Sound k → Noted ws es k n

@@ -1,0 +1,84 @@
+-- What is refused writes nothing; what is not is admitted.
+use Prim.Native.Nat.{ℕ, _≤_}
+use mathlib.Core.Path.{_≡_, refl, sym, ap, _∙_}
+use mathlib.Core.List.{List}
+use mathlib.Core.Bool.{Bool, true, false}
+use native.Mathlib.Omega.{arith}
+use lib.ListN.{replicate}
+use mir.Syntax.{w32}
+use mir.Val.{Fits}
+use Rattle.rules.specs.Answers.{reply, records}
+use Rattle.rules.specs.Solve.{admitted, refusal, Behind, leaves}
+use Rattle.invariants.specs.Admit.{Admitted, refusal-says}
+use Rattle.promise.specs.Admitting.{admitted-is}
+use Rattle.records.specs.Rows.{BrokenAsks}
+use Rattle.refuse.specs.declared.Refusal.{Refusal}
+use Rattle.refuse.specs.declared.Refusal.the-variants.{Admitted as Admits-all, Refused}
+use Rattle.refuse.specs.Refusing.{refusalOf, outside, Settled, outside-refused, inside-sound, in-table, zeros-ask}
+use Rattle.solver.specs.Running.{Admits}
+
+-- an input within its table and solution words, of at most k records
+pub record Inside (k : ℕ) (ws ss : List ℕ) (n : ℕ) : Type 0 where
+  pub few : n ≤ k
+  pub within : outside ws ss n ≡ false
+
+-- and arrays that serve for the checks
+pub record Checking (ws ss ms ls la be es : List ℕ) (n : ℕ) : Type 0 where
+  pub asks : BrokenAsks ws ms ls la be es n
+  pub within : outside ws ss n ≡ false
+
+pub zeros-serve : (k : ℕ) → k ≤ 4096 → (ws ss : List ℕ) (n : ℕ) → Inside k ws ss n → Checking ws ss (replicate k 0) (replicate k 0) (replicate k 0) (replicate k 0) (replicate k 0) n
+zeros-serve k small ws ss n h = record { asks = zeros-ask k small ws n (h .few) (in-table ws ss n (h .within) .1); within = h .within }
+
+-- 4
+module _ (b : Bool) (ws ss qs : List ℕ) (n : ℕ) where
+  pub left-outside : (o : Bool) → o ≡ outside ws ss n → o ≡ true → leaves (refusal b ws ss n) ws ss qs n ≡ record { table = ws; solutions = ss; queue = qs; said = reply 4 0 0 }
+  unfolding leaves
+  left-outside o e t = rw (outside-refused ws ss n b (sym e ∙ t))
+
+module _ (ws ss : List ℕ) (n : ℕ) (o : Bool) (e : o ≡ outside ws ss n) (f : o ≡ false) where
+  pub inside-fits : Fits w32 n
+  inside-fits = let z = in-table ws ss n (sym e ∙ f) .0 in record { fits = omega arith }
+
+  pub inside-most : Inside 4096 ws ss n
+  inside-most = record { few = in-table ws ss n (sym e ∙ f) .0; within = sym e ∙ f }
+
+  pub inside-few : (k : ℕ) → n ≤ k → Inside k ws ss n
+  inside-few k le = record { few = le; within = sym e ∙ f }
+
+-- what is not refused is admitted, with the equations noted
+pub record Settling (ws ss es : List ℕ) (n : ℕ) (x : Refusal) : Type 0 where
+  pub admits : (R k : ℕ) → records ws ≡ R → x ≡ Admits-all k → Admits R n ws ss es k
+
+module _ (ws ss qs es : List ℕ) (n : ℕ) (x : Refusal) where
+  pub left-refused : (a p : ℕ) → x ≡ Refused a p → leaves (refusalOf x) ws ss qs n ≡ record { table = ws; solutions = ss; queue = qs; said = reply a p 0 }
+  unfolding leaves
+  left-refused a p z = rw z
+
+  pub settling-admits : (R k : ℕ) → Settling ws ss es n x → records ws ≡ R → x ≡ Admits-all k → Admits R n ws ss es k
+  settling-admits R k h r z = h .admits R k r z
+
+  pub left-admitted : (k : ℕ) (l : Behind) → x ≡ Admits-all k → leaves admitted ws ss qs n ≡ l → leaves (refusalOf x) ws ss qs n ≡ l
+  left-admitted k l z h = rw z h
+
+-- 5, 10, 6 and 7
+module _ (b : Bool) (ws ss ms ls la be es₀ es : List ℕ) (n : ℕ) (x : Refusal) (h : Checking ws ss ms ls la be es₀ n) (s : Settled ws es n b x) where
+  says : refusal b ws ss n ≡ refusalOf x
+  says = inside-sound ws ss n (h .within) b (refusalOf x) (s .says)
+
+  pub settles : Settling ws ss es n x
+  settles = record { admits = go }
+    where
+      go : (R k : ℕ) → records ws ≡ R → x ≡ Admits-all k → Admits R n ws ss es k
+      go R k r z =
+          let a : Admitted b ws ss n = rw (says, z) at (refusal-says b ws ss n) in
+          let t : refusal true ws ss n ≡ admitted = ap (λ (x : Bool). refusal x ws ss n) (sym (a .is)) ∙ says ∙ ap refusalOf z in
+          record {
+            input = record { is = refl; in-table = a .in-table; held = a .held; sound = a .sound };
+            typed = admitted-is ws ss n t;
+            room = r;
+            noted = record { long = s .held k z; same = s .noted k z };
+          }
+
+  pub left-settled : (qs : List ℕ) (l : Behind) → leaves (refusalOf x) ws ss qs n ≡ l → leaves (refusal b ws ss n) ws ss qs n ≡ l
+  left-settled qs l e = rw says e
