@@ -36,7 +36,7 @@ checked ws n =
     ]
 
 -- it is what solving asks before the machine
-refusal-checked : (ws ss : List ℕ) (n : ℕ) → records ws ≤ length ss → refusal true ws ss n ≡ checked ws n
+pub refusal-checked : (ws ss : List ℕ) (n : ℕ) → records ws ≤ length ss → refusal true ws ss n ≡ checked ws n
 unfolding refusal checked either
 refusal-checked ws ss n h = go (ltb (records ws) n) refl
   where
