@@ -2,3 +2,4 @@ pub mod Renamed  -- a variable that has a place, renamed
 pub mod Levels  -- one level of a term written anew, by the record read
 pub mod Parts  -- a term of a fine store, by the record read
 pub mod Lambdas  -- lambdas written after a body
+pub mod Below  -- what a loop that takes lambdas off keeps

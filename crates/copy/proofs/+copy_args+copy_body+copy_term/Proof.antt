@@ -7,8 +7,10 @@ use Rattle.places.specs.Maps.{mapOf}
 use Rattle.rewrite.specs.Levels.{Headed, head-named}
 use Rattle.laws.specs.Lists.{size}
 use Rattle.places.specs.Filling.{fits-index, fits-next}
-use Rattle.copy.specs.Ready.{to-read, to-read-b, to-look, to-push, to-since, to-then, to-counts, to-write, copied-hole, to-name, head-kept, copied-leaf, fall-args, to-args, copied-rigid}
-use Rattle.copy.specs.Below.{Below, below-first, below-depth, below-less, below-read, below-next, below-body, below-falls, below-deep, below-then, below-ends}
+use Rattle.copy.specs.Copies.{Gives}
+use Rattle.copy.specs.Ready.{ReadyT, to-read, to-read-b, to-look, to-push, to-since, to-then, to-counts, to-write, copied-hole, to-name, head-kept, copied-leaf, fall-args, to-args, copied-rigid}
+use Rattle.rewrite.specs.Below.{Below, below-first, below-depth, below-less, below-read, below-next, below-plain, below-then}
+use Rattle.copy.specs.Below.{opens, below-ends}
 use Rattle.copy.specs.Each.{Turn, turn-first, turn-kept, turn-array, turn-cells, turn-ends, turn-read, turn-falls, turn-less, turn-head, room-left, turn-stops, turn-next}
 use Prim.Native.Nat.{ℕ, _+_, _*_, _<_}
 use borrow.Fn.Kinds.{In}
@@ -70,7 +72,7 @@ abbrev copy-args-μ-loop : copy-args-lts.MeasureT-loop
 copy-args-μ-loop table₀ n used room map depth list noted₀ k₀ taken₀ left₀ table noted k taken left = size left
 
 abbrev copy-term-Inv-loop : copy-term-lts.InvT-loop
-copy-term-Inv-loop table n used room map depth at inner₀ term₀ rec₀ inner term rec = Below room n map table used depth at inner term rec
+copy-term-Inv-loop table n used room map depth at inner₀ term₀ rec₀ inner term rec = Below (ReadyT room n map table used) (λ s. Gives room map table s used) room table table depth at inner term rec
 
 abbrev copy-term-μ-loop : copy-term-lts.MeasureT-loop
 copy-term-μ-loop table n used room map depth at inner₀ term₀ rec₀ inner term rec = term
@@ -153,13 +155,13 @@ pub +copy-args+copy-body+copy-term-spec : {M : Type 1} → statement M
     copy-term-Inv-loop
     copy-term-μ-loop
     (λ c κs. search to-read)
-    (λ c. search below-first)
+    (λ c. search (below-first, opens))
     (λ c. search below-depth)
     (λ c κs. search below-read)
     (λ c. search below-less)
     (λ c. search below-next)
-    (λ c κs. (search below-falls, search below-body))
-    (λ c. search below-deep)
+    (λ c κs. (search needs, search below-plain))
+    (λ c. search needs)
     (λ c κs. (search below-then, search needs))
     (λ c. search needs)
     (λ c. search below-ends)

@@ -8,9 +8,10 @@ use Rattle.places.specs.Filling.{fits-index, fits-next}
 use Rattle.invariants.specs.Rise.{reach}
 use Rattle.places.specs.Maps.{mapOf}
 use Rattle.rewrite.specs.Levels.{Headed, head-named}
-use Rattle.show.specs.Shows.{since-none, show-leaf, hole-written}
-use Rattle.show.specs.Ready.{to-read, to-read-b, to-look, to-above, to-push, to-then, to-counts, fall-hole, to-hole, shows-occurrence, to-name, head-kept, fall-args, to-args, shows-rigid, to-solution, to-write, fall-solution, to-term, shows-solution}
-use Rattle.show.specs.Below.{Below, below-first, below-depth, below-less, below-read, below-next, below-body, below-falls, below-deep, below-then, below-ends}
+use Rattle.show.specs.Shows.{Gives, since-none, show-leaf, hole-written}
+use Rattle.show.specs.Ready.{ReadyT, to-read, to-read-b, to-look, to-above, to-push, to-then, to-counts, fall-hole, to-hole, shows-occurrence, to-name, head-kept, fall-args, to-args, shows-rigid, to-solution, to-write, fall-solution, to-term, shows-solution}
+use Rattle.rewrite.specs.Below.{Below, below-first, below-depth, below-less, below-read, below-next, below-plain, below-then}
+use Rattle.show.specs.Below.{opens, below-ends}
 use Rattle.show.specs.Each.{Turn, turn-first, turn-kept, turn-array, turn-cells, turn-ends, turn-read, turn-falls, turn-less, turn-head, room-left, turn-stops, turn-next}
 use Prim.Native.Nat.{ℕ, _+_, _*_, _<_}
 use borrow.Fn.Kinds.{In}
@@ -86,7 +87,7 @@ abbrev show-args-μ-loop : show-args-lts.MeasureT-loop
 show-args-μ-loop table solutions output₀ task used map depth list noted₀ k₀ taken₀ left₀ output noted k taken left = size left
 
 abbrev show-term-Inv-loop : show-term-lts.InvT-loop
-show-term-Inv-loop table solutions output task used map depth at inner₀ term₀ rec₀ inner term rec = Below (task .room) map table solutions output used (task .floor) depth at inner term rec
+show-term-Inv-loop table solutions output task used map depth at inner₀ term₀ rec₀ inner term rec = Below (ReadyT (task .room) map table solutions output (task .floor)) (λ s. Gives (task .room) map table s output used (task .floor)) (task .room) table output depth at inner term rec
 
 abbrev show-term-μ-loop : show-term-lts.MeasureT-loop
 show-term-μ-loop table solutions output task used map depth at inner₀ term₀ rec₀ inner term rec = term
@@ -188,13 +189,13 @@ pub +show-args+show-body+show-hole+show-term-spec : {M : Type 1} → statement M
     show-term-Inv-loop
     show-term-μ-loop
     (λ c κs. search to-read)
-    (λ c. search below-first)
+    (λ c. below-first _ (opens _) (search needs) (search needs))
     (λ c. search below-depth)
     (λ c κs. search below-read)
     (λ c. search below-less)
     (λ c. search below-next)
-    (λ c κs. (search below-falls, search below-body))
-    (λ c. search below-deep)
+    (λ c κs. (search needs, search below-plain))
+    (λ c. search needs)
     (λ c κs. (search below-then, search since-none))
     (λ c. search needs)
     (λ c. search below-ends)

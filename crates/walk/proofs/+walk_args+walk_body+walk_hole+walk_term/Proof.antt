@@ -6,9 +6,10 @@ use Rattle.rewrite.specs.Levels.{Headed, head-placed}
 use Rattle.laws.specs.Lists.{size}
 use Rattle.places.specs.Filling.{fits-index, fits-next}
 use Rattle.invariants.specs.Rise.{reach}
-use Rattle.walk.specs.Walks.{mapAt, walk-escape, walk-leaf, hole-occurs, hole-keeps}
-use Rattle.walk.specs.Ready.{to-read, to-read-b, to-look, to-push, to-since, to-then, fall-hole, to-hole, walked-hole, head-kept, fall-args, to-args, walked-rigid, to-read-h, to-looks-h, to-counts, to-solution, to-keep, to-raise, fall-hop, to-hop, hops}
-use Rattle.walk.specs.Below.{Below, below-first, below-depth, below-less, below-read, below-next, below-body, below-falls, below-deep, below-then, below-ends}
+use Rattle.walk.specs.Walks.{mapAt, Gives, walk-escape, walk-leaf, hole-occurs, hole-keeps}
+use Rattle.walk.specs.Ready.{ReadyT, to-read, to-read-b, to-look, to-push, to-since, to-then, fall-hole, to-hole, walked-hole, head-kept, fall-args, to-args, walked-rigid, to-read-h, to-looks-h, to-counts, to-solution, to-keep, to-raise, fall-hop, to-hop, hops}
+use Rattle.rewrite.specs.Below.{Below, below-first, below-depth, below-less, below-read, below-next, below-plain, below-then}
+use Rattle.walk.specs.Below.{opens, below-ends}
 use Rattle.walk.specs.Each.{Turn, turn-first, turn-kept, turn-held, turn-holds, turn-array, turn-cells, turn-ends, turn-read, turn-falls, turn-less, turn-head, room-left, turn-stops, turn-next}
 use Prim.Native.Nat.{ℕ, _+_, _*_, _<_}
 use borrow.Fn.Kinds.{In}
@@ -85,7 +86,7 @@ abbrev walk-args-μ-loop : walk-args-lts.MeasureT-loop
 walk-args-μ-loop table₀ solutions₀ task used map depth list noted₀ k₀ taken₀ left₀ table solutions noted k taken left = size left
 
 abbrev walk-term-Inv-loop : walk-term-lts.InvT-loop
-walk-term-Inv-loop table solutions task used map depth at inner₀ term₀ rec₀ inner term rec = Below (task .room) (task .n) (task .hole .0) map table solutions used (task .floor) depth at inner term rec
+walk-term-Inv-loop table solutions task used map depth at inner₀ term₀ rec₀ inner term rec = Below (ReadyT (task .room) (task .n) (task .hole .0) map table solutions used (task .floor)) (λ s. Gives (task .room) (task .hole .0) map table s used (task .floor)) (task .room) table table depth at inner term rec
 
 abbrev walk-term-μ-loop : walk-term-lts.MeasureT-loop
 walk-term-μ-loop table solutions task used map depth at inner₀ term₀ rec₀ inner term rec = term
@@ -204,13 +205,13 @@ pub +walk-args+walk-body+walk-hole+walk-term-spec : {M : Type 1} → statement M
     walk-term-Inv-loop
     walk-term-μ-loop
     (λ c κs. search to-read)
-    (λ c. search below-first)
+    (λ c. search (below-first, opens))
     (λ c. search below-depth)
     (λ c κs. search below-read)
     (λ c. search below-less)
     (λ c. search below-next)
-    (λ c κs. (search below-falls, below-body _ _ _ _ _ _ _ _ _ _ _ _ _ (c .before .before .before .before .loop .inv) (c .before .before .if1 .left)))
-    (λ c. search below-deep)
+    (λ c κs. (search needs, search below-plain))
+    (λ c. search needs)
     (λ c κs. (search below-then, search needs))
     (λ c. search needs)
     (λ c. search needs)
