@@ -1,17 +1,23 @@
 -- What the walk of a term asks, and that it still holds where the code goes on.
 use Prim.Native.Nat.{ℕ, suc, _+_, _*_, _<_, _≤_}
-use mathlib.Core.Path.{_≡_, sym, _∙_}
+use mathlib.Core.Path.{_≡_, refl, sym, _∙_}
 use mathlib.Core.List.{List}
 use native.Mathlib.Omega.{arith}
 use native.Mathlib.Decide.{ℕ-discrete}
 use lib.ListN.{length, getD, length-map}
 use lib.Dec.{eqb}
 use borrow.Author.Tests.{ne-eqb}
+use Rattle.rules.specs.declared.Found.{Found}
+use Rattle.rules.specs.declared.Found.the-variants.{At, Nowhere}
+use Rattle.rules.specs.declared.Failure.the-variants.{Escape}
 use Rattle.store.specs.declared.Walked.{Walked}
+use Rattle.store.specs.declared.Walked.the-variants.{Failed}
 use Rattle.table.specs.declared.Record.{Record}
 use Rattle.table.specs.Reading.{IsRecord}
 use Rattle.places.specs.declared.Map.{Map}
 use Rattle.rules.specs.Words.{NONE, tag, fieldA, fieldB, elements, arguments, variables}
+use Rattle.rules.specs.Store.{push}
+use Rattle.rules.specs.Map.{placeOf}
 use Rattle.laws.specs.Lists.{size}
 use Rattle.invariants.specs.Floor.{Sub, Args, Fine}
 use Rattle.invariants.specs.Grow.{sub-less, args-less}
@@ -19,15 +25,15 @@ use Rattle.invariants.specs.Places.{Low, followed}
 use Rattle.invariants.specs.Rise.{reach, raised, raised-first, raised-on, Rises, rises}
 use Rattle.invariants.specs.Keep.{highest}
 use Rattle.promise.specs.WalkKnown.{WalkKnown, WalkAllKnown, walk-body, walk-constant, walk-variable, walk-arity, walk-solution}
-use Rattle.store.specs.Said.{store, Then, over}
+use Rattle.store.specs.Said.{store, Does, Then, over}
 use Rattle.places.specs.Maps.{Whole}
 use Rattle.places.specs.Looking.{Looks}
 use Rattle.places.specs.Lists.{Counts, varsOf}
 use Rattle.places.specs.Follow.{Followed}
 use Rattle.narrow.specs.Narrowing.{Narrowing}
-use Rattle.rewrite.specs.Levels.{Headed, of-constant}
+use Rattle.rewrite.specs.Levels.{Headed, of-constant, of-variable}
 use Rattle.rewrite.specs.Parts.{term-read, body-at, args-at, size-args, few-at, counts-at, hole-held, narrows}
-use Rattle.walk.specs.Walks.{mapAt, WalksT, WalksL, WalksH, walk-rigid, walk-hole, hole-hops}
+use Rattle.walk.specs.Walks.{mapAt, WalksT, WalksF, WalksL, WalksH, walk-rigid, walk-leaf, walk-escape, walk-hole, hole-hops}
 
 -- what every walk asks, at a measure k
 pub record On (R n u : ℕ) (m : Map) (home : ℕ → ℕ) (ws ss : List ℕ) (used F d k : ℕ) : Type 0 where
@@ -49,6 +55,15 @@ pub record ReadyB (R n u : ℕ) (m : Map) (ws ss : List ℕ) (used F d r : ℕ) 
   pub on : ReadyT R n u m ws ss used F d r
   pub plain : tag ws r ≡ 6 → ⊥
 
+-- a rigid head without arguments
+pub record ReadyF (R n : ℕ) (m : Map) (ws : List ℕ) (used F d r : ℕ) : Type 0 where
+  pub reads : 4 * r + 3 < length ws
+  pub looks : Looks (eqb F 0) m d
+  pub room : 4 * R ≤ length ws
+  pub since : n ≤ used
+  pub rigid : (7 ≤ tag ws r) × (tag ws r ≤ 8)
+  pub bare : fieldB ws r ≡ NONE
+
 pub record ReadyL (R n u : ℕ) (m : Map) (ws ss : List ℕ) (used F d l : ℕ) : Type 0 where
   pub home : ℕ → ℕ
   pub is : Args ws home F used l
@@ -63,9 +78,12 @@ pub record ReadyH (R n u : ℕ) (m : Map) (ws ss : List ℕ) (used F d r : ℕ) 
 pub on-part : {R n u : ℕ} {m : Map} {home : ℕ → ℕ} {ws ss : List ℕ} {used F d k : ℕ} (d₁ k₁ : ℕ) → On R n u m home ws ss used F d k → d₁ + k₁ ≤ d + k → On R n u m home ws ss used F d₁ k₁
 on-part d₁ k₁ o h = let f = o .fits in record { fine = o .fine; hole = o .hole; whole = o .whole; top = o .top; low = o .low; fits = omega arith }
 
--- the cycle's measure is twice the reach, and one more at a term whose lambdas are not yet taken off
-pub fall-hole : (R F r t : ℕ) → 2 * reach R F (suc r) ≡ t → 2 * reach R F r < t
+-- the cycle's measure is three times the reach, and one more at a term whose lambdas are not yet taken off, two at an argument
+pub fall-hole : (R F r t : ℕ) → 3 * reach R F (suc r) ≡ t → 3 * reach R F r < t
 fall-hole R F r t z = omega arith
+
+pub fall-argument : (R F r t : ℕ) → 3 * reach R F (suc r) + 2 ≡ t → 3 * reach R F (suc r) + 1 < t
+fall-argument R F r t z = omega arith
 
 module _ {R n u : ℕ} {m : Map} {ws ss : List ℕ} {used F d r : ℕ} where
   pub to-read : ReadyT R n u m ws ss used F d r → 4 * r + 3 < length ws
@@ -127,7 +145,7 @@ module _ {R n u : ℕ} {m : Map} {ws ss : List ℕ} {used F d r : ℕ} where
     args : size (w .b) ≤ r
     args = size-args R n (h .on .home) ws ss used F r (h .on .on .fine) (h .on .is) w e a
 
-    pub fall-args : (t : ℕ) → 2 * reach R F (suc r) ≡ t → 2 * reach R F (size (w .b)) < t
+    pub fall-args : (t : ℕ) → 3 * reach R F (suc r) ≡ t → 3 * reach R F (size (w .b)) < t
     fall-args t z = let s = args in omega arith
 
     knows : WalkAllKnown R (store ws ss used) (w .b)
@@ -158,6 +176,21 @@ module _ {R n u : ℕ} {m : Map} {ws ss : List ℕ} {used F d r : ℕ} where
         → WalksL R n u m ws ss used F d (w .b) ws₁ ss₁ x → Then n (over R (w .tag) v) ws₁ x ws₂ y → WalksT R n u m ws ss used F d r ws₂ ss₁ y
     walked-rigid v ws₁ ss₁ x ws₂ y t p q = walk-rigid R n u m ws ss used F d r w e v ws₁ ss₁ x ws₂ y t (let s = args in omega arith) p q
 
+  -- an argument that is a rigid head without arguments
+  leaf : (w : Record) → IsRecord ws r w → w .b ≡ NONE → 7 ≤ w .tag → w .tag ≤ 8 → ReadyT R n u m ws ss used F d r → ReadyF R n m ws used F d r
+  leaf w e z lo hi h =
+      let t = e .tag-is in
+      record { reads = to-read h; looks = look h; room = h .on .fine .room; since = h .on .fine .since; rigid = (omega arith, omega arith); bare = sym (e .b-is) ∙ z }
+
+  pub to-constant : (w : Record) → IsRecord ws r w → w .b ≡ NONE → w .tag ≡ 7 → ReadyT R n u m ws ss used F d r → ReadyF R n m ws used F d r
+  to-constant w e z k h = leaf w e z (omega arith) (omega arith) h
+
+  pub to-variable : (w : Record) → IsRecord ws r w → w .b ≡ NONE → w .tag ≡ 8 → ReadyT R n u m ws ss used F d r → ReadyF R n m ws used F d r
+  to-variable w e z k h = leaf w e z (omega arith) (omega arith) h
+
+  pub walked-leaf : (ws₁ : List ℕ) (x : Walked) → WalksF R n m ws used F d r ws₁ x → WalksT R n u m ws ss used F d r ws₁ ss x
+  walked-leaf ws₁ x p = p .for u ss
+
   -- an occurrence
   pub to-read-h : ReadyH R n u m ws ss used F d r → 4 * r + 3 < length ws
   to-read-h h = to-read (h .on)
@@ -187,7 +220,7 @@ module _ {R n u : ℕ} {m : Map} {ws ss : List ℕ} {used F d r : ℕ} where
       let st₁ : getD ss (fieldA ws r) NONE ≡ t = rw (← e .a-is) st in
       rw (g, st₁) at (rises R n (h .on .home) (store ws ss used) F r (h .on .on .fine) (h .on .is .below) (h .occ) (h .on .is .up) (λ q. z (sym st₁ ∙ q)))
 
-  pub fall-hop : (w : Record) (t G k : ℕ) → 2 * reach R F r ≡ k → IsRecord ws r w → getD ss (w .a) NONE ≡ t → (t ≡ NONE → ⊥) → raised n F r ≡ G → ReadyH R n u m ws ss used F d r → 2 * reach R G (suc t) + 1 < k
+  pub fall-hop : (w : Record) (t G k : ℕ) → 3 * reach R F r ≡ k → IsRecord ws r w → getD ss (w .a) NONE ≡ t → (t ≡ NONE → ⊥) → raised n F r ≡ G → ReadyH R n u m ws ss used F d r → 3 * reach R G (suc t) + 1 < k
   fall-hop w t G k y e st z g h = let a = risen w t G e st z g h .falls in omega arith
 
   -- the floor there is no 0
@@ -221,3 +254,31 @@ module _ {R n u : ℕ} {m : Map} {ws ss : List ℕ} {used F d r : ℕ} where
 
     pub hops : (ws₁ ss₁ : List ℕ) (x : Walked) → (w .a ≡ u → ⊥) → WalksT R n u next ws ss used G 0 t ws₁ ss₁ x → WalksH R n u m ws ss used F d r ws₁ ss₁ x
     hops ws₁ ss₁ x ne p = hole-hops R n u m ws ss used F d r w e ne next fo t st G ws₁ ss₁ x z (above G g h) (risen w t G e st z g h .falls) p
+
+-- a rigid head without arguments
+module _ {R n : ℕ} {m : Map} {ws : List ℕ} {used F d r : ℕ} (h : ReadyF R n m ws used F d r) where
+  pub leaf-read : 4 * r + 3 < length ws
+  leaf-read = h .reads
+
+  pub leaf-look : Looks (eqb F 0) m d
+  leaf-look = h .looks
+
+  pub leaf-room : 4 * R ≤ length ws
+  leaf-room = h .room
+
+  pub leaf-since : n ≤ used
+  leaf-since = h .since
+
+  module _ (w : Record) (e : IsRecord ws r w) where
+    pub leaf-constant : (ws₁ : List ℕ) (x : Walked) → (w .tag ≡ 8 → ⊥) → Does n (push R (w .tag) (w .a) NONE) ws used ws₁ x → WalksF R n m ws used F d r ws₁ x
+    leaf-constant ws₁ x c p =
+        let lo = h .rigid .0 in
+        let hi = h .rigid .1 in
+        let z = e .tag-is in
+        record { for = λ u ss. walk-leaf R n u m ws ss used F d r w e (w .a) ws₁ x (of-constant (omega arith) refl) (e .b-is ∙ h .bare) p }
+
+    pub leaf-variable : (s : Found) (v : ℕ) (ws₁ : List ℕ) (x : Walked) → w .tag ≡ 8 → placeOf (mapAt F m) d (w .a) ≡ s → s ≡ At v → Does n (push R (w .tag) v NONE) ws used ws₁ x → WalksF R n m ws used F d r ws₁ x
+    leaf-variable s v ws₁ x t p q g = record { for = λ u ss. walk-leaf R n u m ws ss used F d r w e v ws₁ x (of-variable t (p ∙ q)) (e .b-is ∙ h .bare) g }
+
+    pub leaf-escape : (s : Found) → w .tag ≡ 8 → placeOf (mapAt F m) d (w .a) ≡ s → s ≡ Nowhere → WalksF R n m ws used F d r ws (Failed Escape)
+    leaf-escape s t p q = record { for = λ u ss. walk-escape R n u m ws ss used F d r w e s t p q }

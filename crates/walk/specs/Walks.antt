@@ -49,6 +49,10 @@ pub record WalksH (R n u : ℕ) (m : Map) (ws ss : List ℕ) (used F d r : ℕ) 
   pub run : (f : ℕ) → reach R F r ≤ f → walkHole (walk f R u) R u (mapAt F m) d r (store ws ss used) ≡ shown ws₁ ss₁ x
   pub grown : Since n x
 
+-- the walk of a rigid head without arguments, whatever the hole and the solutions
+pub record WalksF (R n : ℕ) (m : Map) (ws : List ℕ) (used F d r : ℕ) (ws₁ : List ℕ) (x : Walked) : Type 0 where
+  pub for : (u : ℕ) (ss : List ℕ) → WalksT R n u m ws ss used F d r ws₁ ss x
+
 module _ (R n u : ℕ) (m : Map) (ws ss : List ℕ) (used F d r : ℕ) where
   more : (ws₁ ss₁ : List ℕ) (x : Walked) → Since n x
       → ((k : ℕ) → reach R F (suc r) ≤ k → writeTerm (walkHole (walk k R u) R u) (walk k R u) R ws (mapAt F m) d r (store ws ss used) ≡ shown ws₁ ss₁ x)

@@ -12,6 +12,7 @@ use store::Walked;
 use store::push;
 use store::solution_of;
 use store::then_over;
+use table::CA;
 use table::HA;
 use table::Hole;
 use table::LA;
@@ -24,9 +25,9 @@ ghost use Prim.Native.Nat.{_<_};
 ghost use lib.ListN.{length};
 ghost use Rattle.rules.specs.Walk.{assign as assignOf};
 ghost use Rattle.store.specs.Said.{Does²};
-ghost use Rattle.walk.specs.Walks.{WalksT, WalksL, WalksH};
+ghost use Rattle.walk.specs.Walks.{WalksT, WalksF, WalksL, WalksH};
 ghost use Rattle.invariants.specs.Rise.{raised};
-ghost use Rattle.walk.specs.Ready.{ReadyT, ReadyB, ReadyL, ReadyH};
+ghost use Rattle.walk.specs.Ready.{ReadyT, ReadyB, ReadyF, ReadyL, ReadyH};
 ghost use Rattle.walk.specs.Assign.{Assigning, Records};
 
 // What the parts of a walk share: records are written from n on, up to `room`; this hole is solved; the floor is 0 on the side of a pair,
@@ -106,6 +107,46 @@ fn walk_body(
     then_over(table, task.n, task.room, rec.tag, head, args)
 }
 
+// The walk of a rigid head without arguments: no solution is read or written.
+fn walk_leaf(table: &mut [u32], task: Task, used: u32, map: Map, depth: u32, at: u32) -> Walked
+    requires { ⌜ ReadyF (task .room) (task .n) map (now table) used (task .floor) depth at ⌝ }
+    ensures { λ r. ⌜ WalksF (task .room) (task .n) map (now (table .entry)) used (task .floor) depth at (now (table .exit)) r ⌝ }
+{
+    let rec = read(table, at);
+    if rec.tag != VA {
+        return push(table, task.n, used, task.room, rec.tag, rec.a, NONE);
+    }
+    let Found::At(v) = place_of(map, task.floor == 0, depth, Variable(rec.a)) else {
+        return Walked::Failed(Failure::Escape);
+    };
+    push(table, task.n, used, task.room, rec.tag, v, NONE)
+}
+
+// The walk of an argument: most are rigid heads without arguments, and these take no walk of a term.
+fn walk_argument(
+    table: &mut [u32],
+    solutions: &mut [u32],
+    task: Task,
+    used: u32,
+    map: Map,
+    depth: u32,
+    at: u32,
+) -> Walked
+    requires { ⌜ ReadyT (task .room) (task .n) (task .hole .0) map (now table) (now solutions) used (task .floor) depth at ⌝ }
+    ensures { λ r. ⌜ WalksT (task .room) (task .n) (task .hole .0) map (now (table .entry)) (now (solutions .entry)) used (task .floor) depth at (now (table .exit)) (now (solutions .exit)) r ⌝ }
+{
+    let rec = read(table, at);
+    if rec.b == NONE {
+        if rec.tag == CA {
+            return walk_leaf(table, task, used, map, depth, at);
+        }
+        if rec.tag == VA {
+            return walk_leaf(table, task, used, map, depth, at);
+        }
+    }
+    walk_term(table, solutions, task, used, map, depth, at)
+}
+
 // The walk of an argument list: arguments in order, then their cells from last to first.
 fn walk_args(
     table: &mut [u32],
@@ -125,7 +166,7 @@ fn walk_args(
     let mut left = list;
     while left != NONE {
         let cell = read(table, left);
-        match walk_term(table, solutions, task, taken, map, depth, cell.a) {
+        match walk_argument(table, solutions, task, taken, map, depth, cell.a) {
             Walked::Failed(e) => {
                 return Walked::Failed(e);
             }

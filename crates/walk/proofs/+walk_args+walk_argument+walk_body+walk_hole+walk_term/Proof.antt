@@ -1,4 +1,4 @@
--- `walk_args`, `walk_body`, `walk_hole` and `walk_term` of `walk`, which call each other, meet their contracts.
+-- `walk_args`, `walk_argument`, `walk_body`, `walk_hole` and `walk_term` of `walk`, which call each other, meet their contracts.
 use borrow.Author.Needs.{needs}
 use Prim.Native.Nat.{suc}
 use mathlib.Core.Logic.{⊎-elim}
@@ -7,7 +7,7 @@ use Rattle.laws.specs.Lists.{size}
 use Rattle.places.specs.Filling.{fits-index, fits-next}
 use Rattle.invariants.specs.Rise.{reach}
 use Rattle.walk.specs.Walks.{mapAt, Gives, walk-escape, walk-leaf, hole-occurs, hole-keeps}
-use Rattle.walk.specs.Ready.{ReadyT, to-read, to-read-b, to-look, to-push, to-since, to-then, fall-hole, to-hole, walked-hole, head-kept, fall-args, to-args, walked-rigid, to-read-h, to-looks-h, to-counts, to-solution, to-keep, to-raise, fall-hop, to-hop, hops}
+use Rattle.walk.specs.Ready.{ReadyT, to-constant, to-variable, walked-leaf, fall-argument, to-read, to-read-b, to-look, to-push, to-since, to-then, fall-hole, to-hole, walked-hole, head-kept, fall-args, to-args, walked-rigid, to-read-h, to-looks-h, to-counts, to-solution, to-keep, to-raise, fall-hop, to-hop, hops}
 use Rattle.rewrite.specs.Below.{Below, below-first, below-depth, below-less, below-read, below-next, below-plain, below-then}
 use Rattle.walk.specs.Below.{opens, below-ends}
 use Rattle.walk.specs.Each.{Turn, turn-first, turn-kept, turn-held, turn-holds, turn-array, turn-cells, turn-ends, turn-read, turn-falls, turn-less, turn-head, room-left, turn-stops, turn-next}
@@ -16,16 +16,19 @@ use borrow.Fn.Kinds.{In}
 use borrow.Fn.PlainCycle.{Measures, is, falls, and}
 use Rattle.walk.proofs.walk_args.Reads as walk-args
 use Rattle.walk.proofs.walk_args.Kinds as walk-args-kinds
-use Rattle.walk.proofs.+walk_args+walk_body+walk_hole+walk_term.Lts-walk_args as walk-args-lts
+use Rattle.walk.proofs.+walk_args+walk_argument+walk_body+walk_hole+walk_term.Lts-walk_args as walk-args-lts
+use Rattle.walk.proofs.walk_argument.Reads as walk-argument
+use Rattle.walk.proofs.walk_argument.Kinds as walk-argument-kinds
+use Rattle.walk.proofs.+walk_args+walk_argument+walk_body+walk_hole+walk_term.Lts-walk_argument as walk-argument-lts
 use Rattle.walk.proofs.walk_body.Reads as walk-body
 use Rattle.walk.proofs.walk_body.Kinds as walk-body-kinds
-use Rattle.walk.proofs.+walk_args+walk_body+walk_hole+walk_term.Lts-walk_body as walk-body-lts
+use Rattle.walk.proofs.+walk_args+walk_argument+walk_body+walk_hole+walk_term.Lts-walk_body as walk-body-lts
 use Rattle.walk.proofs.walk_hole.Reads as walk-hole
 use Rattle.walk.proofs.walk_hole.Kinds as walk-hole-kinds
-use Rattle.walk.proofs.+walk_args+walk_body+walk_hole+walk_term.Lts-walk_hole as walk-hole-lts
+use Rattle.walk.proofs.+walk_args+walk_argument+walk_body+walk_hole+walk_term.Lts-walk_hole as walk-hole-lts
 use Rattle.walk.proofs.walk_term.Reads as walk-term
 use Rattle.walk.proofs.walk_term.Kinds as walk-term-kinds
-use Rattle.walk.proofs.+walk_args+walk_body+walk_hole+walk_term.Lts-walk_term as walk-term-lts
+use Rattle.walk.proofs.+walk_args+walk_argument+walk_body+walk_hole+walk_term.Lts-walk_term as walk-term-lts
 use Rattle.narrow.proofs.keep_placed.Reads as keep-placed-reads
 use Rattle.narrow.proofs.push_cells.Reads as push-cells-reads
 use Rattle.places.proofs.follow.Reads as follow-reads
@@ -36,20 +39,24 @@ use Rattle.store.proofs.solution_of.Reads as solution-of-reads
 use Rattle.store.proofs.then_over.Reads as then-over-reads
 use Rattle.table.proofs.read.Reads as read-reads
 use Rattle.walk.proofs.raise.Reads as raise-reads
-use Rattle.walk.proofs.+walk_args+walk_body+walk_hole+walk_term.{statement}
-use Rattle.walk.proofs.+walk_args+walk_body+walk_hole+walk_term.Tie.{close}
+use Rattle.walk.proofs.walk_leaf.Reads as walk-leaf-reads
+use Rattle.walk.proofs.+walk_args+walk_argument+walk_body+walk_hole+walk_term.{statement}
+use Rattle.walk.proofs.+walk_args+walk_argument+walk_body+walk_hole+walk_term.Tie.{close}
 
 abbrev μ-walk-args : Measures 2 walk-args-kinds.ps ℕ
-μ-walk-args κs a = 2 * reach (a .1 .1 .0 .room) (a .1 .1 .0 .floor) (size (a .1 .1 .1 .1 .1 .1 .0))
+μ-walk-args κs a = 3 * reach (a .1 .1 .0 .room) (a .1 .1 .0 .floor) (size (a .1 .1 .1 .1 .1 .1 .0))
+
+abbrev μ-walk-argument : Measures 2 walk-argument-kinds.ps ℕ
+μ-walk-argument κs a = 3 * reach (a .1 .1 .0 .room) (a .1 .1 .0 .floor) (suc (a .1 .1 .1 .1 .1 .1 .0)) + 2
 
 abbrev μ-walk-body : Measures 2 walk-body-kinds.ps ℕ
-μ-walk-body κs a = 2 * reach (a .1 .1 .0 .room) (a .1 .1 .0 .floor) (suc (a .1 .1 .1 .1 .1 .1 .0))
+μ-walk-body κs a = 3 * reach (a .1 .1 .0 .room) (a .1 .1 .0 .floor) (suc (a .1 .1 .1 .1 .1 .1 .0))
 
 abbrev μ-walk-hole : Measures 2 walk-hole-kinds.ps ℕ
-μ-walk-hole κs a = 2 * reach (a .1 .1 .0 .room) (a .1 .1 .0 .floor) (a .1 .1 .1 .1 .1 .1 .0)
+μ-walk-hole κs a = 3 * reach (a .1 .1 .0 .room) (a .1 .1 .0 .floor) (a .1 .1 .1 .1 .1 .1 .0)
 
 abbrev μ-walk-term : Measures 2 walk-term-kinds.ps ℕ
-μ-walk-term κs a = 2 * reach (a .1 .1 .0 .room) (a .1 .1 .0 .floor) (suc (a .1 .1 .1 .1 .1 .1 .0)) + 1
+μ-walk-term κs a = 3 * reach (a .1 .1 .0 .room) (a .1 .1 .0 .floor) (suc (a .1 .1 .1 .1 .1 .1 .0)) + 1
 
 abbrev walk-args-at : ℕ → In 2 walk-args-kinds.ps
 walk-args-at t = and 2 walk-args-kinds.ps (is 2 walk-args-kinds.ps μ-walk-args t) walk-args.Pre
@@ -57,6 +64,13 @@ walk-args-at t = and 2 walk-args-kinds.ps (is 2 walk-args-kinds.ps μ-walk-args 
 abbrev walk-args-below : ℕ → In 2 walk-args-kinds.ps
 walk-args-below t =
     and 2 walk-args-kinds.ps (falls 2 walk-args-kinds.ps _<_ μ-walk-args t) walk-args.Pre
+
+abbrev walk-argument-at : ℕ → In 2 walk-argument-kinds.ps
+walk-argument-at t = and 2 walk-argument-kinds.ps (is 2 walk-argument-kinds.ps μ-walk-argument t) walk-argument.Pre
+
+abbrev walk-argument-below : ℕ → In 2 walk-argument-kinds.ps
+walk-argument-below t =
+    and 2 walk-argument-kinds.ps (falls 2 walk-argument-kinds.ps _<_ μ-walk-argument t) walk-argument.Pre
 
 abbrev walk-body-at : ℕ → In 2 walk-body-kinds.ps
 walk-body-at t = and 2 walk-body-kinds.ps (is 2 walk-body-kinds.ps μ-walk-body t) walk-body.Pre
@@ -96,13 +110,13 @@ headed : (t : ℕ) (c : walk-body-lts.Joined2 (read-reads.Asked, read-reads.Lear
     → Headed (mapAt (c .before .before .before .before .before .before .before .before .args .task .floor) (c .before .before .before .before .before .before .before .before .args .map)) (c .before .before .before .before .before .before .before .before .args .depth) (c .before .before .before .before .read .result) (c .if2 .head)
 headed t c = ⊎-elim (λ w. search head-placed) (λ w. search head-kept) (c .if2 .came)
 
-pub +walk-args+walk-body+walk-hole+walk-term-spec : {M : Type 1} → statement M
-+walk-args+walk-body+walk-hole+walk-term-spec =
-    close μ-walk-args μ-walk-body μ-walk-hole μ-walk-term (λ t. walk-args-lts.spec (
+pub +walk-args+walk-argument+walk-body+walk-hole+walk-term-spec : {M : Type 1} → statement M
++walk-args+walk-argument+walk-body+walk-hole+walk-term-spec =
+    close μ-walk-args μ-walk-argument μ-walk-body μ-walk-hole μ-walk-term (λ t. walk-args-lts.spec (
       read-reads.Asked,
       read-reads.Learnt,
-      walk-term-below t,
-      walk-term.Post,
+      walk-argument-below t,
+      walk-argument.Post,
       push-cells-reads.Asked,
       push-cells-reads.Learnt,
     )
@@ -128,6 +142,27 @@ pub +walk-args+walk-body+walk-hole+walk-term-spec : {M : Type 1} → statement M
     (λ c. search turn-kept)
     (λ c. search turn-holds)
     (λ c. search turn-ends))
+    (λ t. walk-argument-lts.spec (
+      read-reads.Asked,
+      read-reads.Learnt,
+      walk-leaf-reads.Asked,
+      walk-leaf-reads.Learnt,
+      walk-term-below t,
+      walk-term.Post,
+    )
+    (walk-argument-at t)
+    walk-argument.Post
+    (λ c κs. search to-read)
+    (λ c κs. search to-constant)
+    (λ c. search needs)
+    (λ c. search walked-leaf)
+    (λ c κs. search to-variable)
+    (λ c. search needs)
+    (λ c. search walked-leaf)
+    (λ c κs. (search fall-argument, search needs))
+    (λ c. search needs)
+    (λ c. search needs)
+    (λ c. search needs))
     (λ t. walk-body-lts.spec (
       read-reads.Asked,
       read-reads.Learnt,
