@@ -3,7 +3,6 @@ use Prim.Native.Nat.{ℕ, zero, suc, _+_, _<_, _≤_}
 use mathlib.Core.Path.{_≡_, refl, sym, ap, _∙_}
 use mathlib.Core.List.{List}
 use native.Mathlib.Omega.{arith}
-use Rattle.rules.specs.declared.Found.{Found}
 use Rattle.rules.specs.declared.Found.the-variants.{At, Nowhere}
 use Rattle.rules.specs.declared.Failure.the-variants.{Escape}
 use Rattle.table.specs.declared.Record.{Record}
@@ -25,9 +24,6 @@ fuel (suc k) s h = (k, refl, omega arith)
 pub data Headed (m : Map) (d : ℕ) (w : Record) (v : ℕ) : Type 0 where
   of-constant : w .tag ≡ 7 → w .a ≡ v → Headed m d w v
   of-variable : w .tag ≡ 8 → placeOf m d (w .a) ≡ At v → Headed m d w v
-
-pub head-placed : (m : Map) (d : ℕ) (w : Record) (s : Found) (v x : ℕ) → w .tag ≡ 8 → placeOf m d (w .a) ≡ s → s ≡ At v → x ≡ v → Headed m d w x
-head-placed m d w s v x t p q e = of-variable t (p ∙ q ∙ ap At (sym e))
 
 pub head-named : (m : Map) (d : ℕ) (w : Record) (v x : ℕ) → w .tag ≡ 8 → placeOf m d (w .a) ≡ At v → x ≡ v → Headed m d w x
 head-named m d w v x t p q = of-variable t (p ∙ ap At (sym q))

@@ -1,14 +1,40 @@
 -- What the walk of a term asks and says below its lambdas.
-use Prim.Native.Nat.{ℕ, _-_}
+use Prim.Native.Nat.{ℕ, suc, _+_, _-_, _*_, _<_, _≤_}
+use mathlib.Core.Path.{_≡_}
 use mathlib.Core.List.{List}
 use native.Mathlib.Omega.{arith}
+use lib.ListN.{length}
+use lib.Dec.{eqb}
+use Rattle.rules.specs.declared.Found.{Found}
+use Rattle.rules.specs.declared.Found.the-variants.{At, Nowhere}
+use Rattle.rules.specs.declared.Failure.the-variants.{Escape}
 use Rattle.store.specs.declared.Walked.{Walked}
+use Rattle.store.specs.declared.Walked.the-variants.{Failed}
 use Rattle.table.specs.declared.Record.{Record}
+use Rattle.table.specs.Reading.{IsRecord}
 use Rattle.places.specs.declared.Map.{Map}
-use Rattle.rewrite.specs.Lambdas.{Under}
+use Rattle.rules.specs.Words.{NONE, CE}
+use Rattle.rules.specs.Store.{push}
+use Rattle.laws.specs.Lists.{size}
+use Rattle.invariants.specs.Rise.{reach}
+use Rattle.store.specs.Said.{Does, Then, over, under}
+use Rattle.places.specs.Looking.{Looks}
+use Rattle.rewrite.specs.Lambdas.{Under, under-failed}
+use Rattle.rewrite.specs.Levels.{Headed}
 use Rattle.rewrite.specs.Below.{Opens, Below, below-gives}
-use Rattle.walk.specs.Walks.{Gives, WalksT, walk-lambda}
-use Rattle.walk.specs.Ready.{ReadyT, to-read, body-less, to-body}
+use Rattle.walk.specs.Head.{headOf}
+use Rattle.walk.specs.Walks.{mapAt, Gives, WalksT, WalksL, WalksH, walk-lambda, walk-leaf, walk-escape}
+use Rattle.walk.specs.Ready.{ReadyT, ReadyL, ReadyH, to-read, look, body-less, to-body, to-hole, walked-hole, headed, args-size, to-args, walked-rigid}
+use Rattle.walk.specs.First.{first-read, first-lower, first-ready, only-walked}
+
+-- what the loop that takes the lambdas of r₀ off keeps
+abbrev pub Within : (R n u : ℕ) (m : Map) (ws ss : List ℕ) (used F d₀ r₀ d r : ℕ) (w : Record) → Type 0
+Within R n u m ws ss used F = Below (ReadyT R n u m ws ss used F) (λ s. Gives R u m ws s used F) R ws ws
+
+-- a rigid head there, written as v
+pub record Rigid (R n u : ℕ) (m : Map) (ws ss : List ℕ) (used F d₀ r₀ d r : ℕ) (w : Record) (v : ℕ) : Type 0 where
+  pub below : Within R n u m ws ss used F d₀ r₀ d r w
+  pub head : Headed (mapAt F m) d w v
 
 module _ {R n u : ℕ} {m : Map} {ws ss : List ℕ} {used F : ℕ} where
   pub opens : Opens (ReadyT R n u m ws ss used F) (λ s. Gives R u m ws s used F) R ws ws
@@ -22,6 +48,71 @@ module _ {R n u : ℕ} {m : Map} {ws ss : List ℕ} {used F : ℕ} where
         over = λ d r w e t k s o g. walk-lambda R n u m ws s used F d r w e o t (omega arith) g;
       }
 
-  module _ {d₀ r₀ d r : ℕ} {w : Record} (h : Below (ReadyT R n u m ws ss used F) (λ s. Gives R u m ws s used F) R ws ws d₀ r₀ d r w) where
-    pub below-ends : (ws₁ ss₁ : List ℕ) (x : Walked) (ws₂ : List ℕ) (y : Walked) → WalksT R n u m ws ss used F d r ws₁ ss₁ x → Under n R (d - d₀) ws₁ x ws₂ y → WalksT R n u m ws ss used F d₀ r₀ ws₂ ss₁ y
-    below-ends ws₁ ss₁ x ws₂ y p q = record { run = below-gives h n ss ss₁ ws₁ x ws₂ y (p .run) q; grown = q .grown }
+  module _ {d₀ r₀ d r : ℕ} {w : Record} (h : Within R n u m ws ss used F d₀ r₀ d r w) where
+    ends : (ws₁ ss₁ : List ℕ) (x : Walked) (ws₂ : List ℕ) (y : Walked) → WalksT R n u m ws ss used F d r ws₁ ss₁ x → Under n R (d - d₀) ws₁ x ws₂ y → WalksT R n u m ws ss used F d₀ r₀ ws₂ ss₁ y
+    ends ws₁ ss₁ x ws₂ y p q = record { run = below-gives h n ss ss₁ ws₁ x ws₂ y (p .run) q; grown = q .grown }
+
+    pub below-look : Looks (eqb F 0) m d
+    below-look = look (h .on)
+
+    pub below-room : 4 * R ≤ length ws
+    below-room = h .on .on .fine .room
+
+    pub below-since : n ≤ used
+    below-since = h .on .on .fine .since
+
+    -- an occurrence
+    pub fall-hole : (t : ℕ) → 2 * reach R F (suc r₀) ≡ t → 2 * reach R F r < t
+    fall-hole t z = let le = h .less in omega arith
+
+    pub below-hole : w .tag ≡ 9 → ReadyH R n u m ws ss used F d r
+    below-hole t = to-hole w (h .is) t (h .on)
+
+    pub ends-hole : (ws₁ ss₁ : List ℕ) (x : Walked) (ws₂ : List ℕ) (y : Walked) → w .tag ≡ 9 → WalksH R n u m ws ss used F d r ws₁ ss₁ x → Under n R (d - d₀) ws₁ x ws₂ y → WalksT R n u m ws ss used F d₀ r₀ ws₂ ss₁ y
+    ends-hole ws₁ ss₁ x ws₂ y t p q = ends _ _ _ _ _ (walked-hole w ws₁ ss₁ x (h .is) t p) q
+
+    -- a head without a place
+    pub ends-escape : (s : Found) → headOf (mapAt F m) d w ≡ s → s ≡ Nowhere → WalksT R n u m ws ss used F d₀ r₀ ws ss (Failed Escape)
+    ends-escape s p q = ends _ _ _ _ _ (walk-escape R n u m ws ss used F d r w (h .is) s p q) (under-failed _ _ _ _ _)
+
+    -- a rigid head
+    pub below-rigid : (s : Found) (v : ℕ) → (w .tag ≡ 6 → ⊥) → (w .tag ≡ 9 → ⊥) → headOf (mapAt F m) d w ≡ s → s ≡ At v → Rigid R n u m ws ss used F d₀ r₀ d r w v
+    below-rigid s v a b p q = record { below = h; head = headed w s v (h .is) a b (h .on) p q }
+
+  module _ {d₀ r₀ d r : ℕ} {w : Record} {v : ℕ} (h : Rigid R n u m ws ss used F d₀ r₀ d r w v) where
+    pub ends-leaf : (ws₁ : List ℕ) (x : Walked) (ws₂ : List ℕ) (y : Walked) → w .b ≡ NONE → Does n (push R (w .tag) v NONE) ws used ws₁ x → Under n R (d - d₀) ws₁ x ws₂ y
+        → WalksT R n u m ws ss used F d₀ r₀ ws₂ ss y
+    ends-leaf ws₁ x ws₂ y z g o = ends (h .below) _ _ _ _ _ (walk-leaf R n u m ws ss used F d r w (h .below .is) v ws₁ x (h .head) z g) o
+
+    pub rigid-room : 4 * R ≤ length ws
+    rigid-room = below-room (h .below)
+
+    -- its arguments
+    pub rigid-args : ReadyL R n u m ws ss used F d (w .b)
+    rigid-args = to-args w v (h .below .is) (h .head) (h .below .on)
+
+    size-falls : size (w .b) < suc r₀
+    size-falls = let le = h .below .less in let s = args-size w v (h .below .is) (h .head) (h .below .on) in omega arith
+
+    pub fall-args : (t : ℕ) → 2 * reach R F (suc r₀) ≡ t → 2 * reach R F (size (w .b)) < t
+    fall-args t z = let s = size-falls in omega arith
+
+    pub ends-rigid : (ws₁ ss₁ : List ℕ) (x : Walked) (ws₂ : List ℕ) (y : Walked) (ws₃ : List ℕ) (z : Walked) → WalksL R n u m ws ss used F d (w .b) ws₁ ss₁ x → Then n (over R (w .tag) v) ws₁ x ws₂ y
+        → Under n R (d - d₀) ws₂ y ws₃ z → WalksT R n u m ws ss used F d₀ r₀ ws₃ ss₁ z
+    ends-rigid ws₁ ss₁ x ws₂ y ws₃ z l g o = ends (h .below) _ _ _ _ _ (walked-rigid w v (h .below .is) (h .head) (h .below .on) ws₁ ss₁ x ws₂ y l g) o
+
+    -- its only argument
+    module _ (ne : w .b ≡ NONE → ⊥) where
+      pub cell-reads : 4 * w .b + 3 < length ws
+      cell-reads = first-read rigid-args ne
+
+      module _ (c : Record) (e : IsRecord ws (w .b) c) where
+        pub rigid-only : ReadyT R n u m ws ss used F d (c .a)
+        rigid-only = first-ready rigid-args ne c e
+
+        pub fall-only : (t : ℕ) → 2 * reach R F (suc r₀) ≡ t → 2 * reach R F (suc (c .a)) < t
+        fall-only t z = let s = size-falls in let lo = first-lower rigid-args ne c e .0 in omega arith
+
+        pub ends-only : (ws₁ ss₁ : List ℕ) (x : Walked) (ws₂ : List ℕ) (y : Walked) (ws₃ : List ℕ) (z : Walked) (ws₄ : List ℕ) (o : Walked) → c .b ≡ NONE → WalksT R n u m ws ss used F d (c .a) ws₁ ss₁ x
+            → Then n (under R CE NONE) ws₁ x ws₂ y → Then n (over R (w .tag) v) ws₂ y ws₃ z → Under n R (d - d₀) ws₃ z ws₄ o → WalksT R n u m ws ss used F d₀ r₀ ws₄ ss₁ o
+        ends-only ws₁ ss₁ x ws₂ y ws₃ z ws₄ o last t g k l = ends-rigid ws₂ ss₁ y ws₃ z ws₄ o (only-walked rigid-args ne c e ws₁ ss₁ x ws₂ y last t g) k l

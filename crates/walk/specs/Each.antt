@@ -21,13 +21,14 @@ use Rattle.invariants.specs.Floor.{Sub, Args, Grown, Rooted}
 use Rattle.invariants.specs.Grow.{args-kept}
 use Rattle.invariants.specs.Rise.{reach}
 use Rattle.invariants.specs.Keep.{kept}
-use Rattle.promise.specs.WalkKnown.{walk-first, walk-rest}
+use Rattle.promise.specs.WalkKnown.{walk-rest}
 use Rattle.store.specs.Said.{store, shown, since-failed, Does}
 use Rattle.narrow.specs.Cells.{Celling}
 use Rattle.narrow.specs.Each.{writeRest, writes-all, rest-end, rest-stops, rest-goes}
-use Rattle.rewrite.specs.Parts.{cell-read, lower-at, list-is, both-at, room-at}
+use Rattle.rewrite.specs.Parts.{room-at}
 use Rattle.walk.specs.Walks.{mapAt, WalksT, WalksL}
-use Rattle.walk.specs.Ready.{ReadyT, ReadyL, on-part}
+use Rattle.walk.specs.Ready.{ReadyT, ReadyL}
+use Rattle.walk.specs.First.{first-read, first-parts, first-lower, first-is, first-ready}
 
 -- after k arguments: what they were written as, and what is left
 pub record Turn (R n u : ℕ) (m : Map) (ws₀ ss₀ : List ℕ) (used₀ F d l₀ : ℕ) (ws ss noted : List ℕ) (k used l : ℕ) : Type 0 where
@@ -81,17 +82,17 @@ module _ (R n u : ℕ) (m : Map) (ws₀ ss₀ : List ℕ) (used₀ F d l₀ : �
     -- a cell is left
     module _ (ne : l ≡ NONE → ⊥) where
       pub turn-read : 4 * l + 3 < length ws
-      turn-read = let r = h .ready in cell-read R n (r .home) ws ss used F l (r .on .fine) (r .is) ne
+      turn-read = first-read (h .ready) ne
 
       module _ (w : Record) (e : IsRecord ws l w) where
         parts : Sub ws (h .ready .home) F used (w .a) × Args ws (h .ready .home) F used (w .b)
-        parts = let r = h .ready in both-at R n (r .home) ws ss used F l (r .on .fine) (r .is) ne w e
+        parts = first-parts (h .ready) ne w e
 
         lower : (suc (w .a) < size l) × (size (w .b) < size l)
-        lower = let r = h .ready in lower-at R n (r .home) ws ss used F l (r .on .fine) (r .is) ne w e
+        lower = first-lower (h .ready) ne w e
 
         is-cell : elements ws l ≡ w .a ∷ elements ws (w .b)
-        is-cell = let r = h .ready in list-is R n (r .home) ws ss used F l (r .on .fine) (r .is) ne w e
+        is-cell = first-is (h .ready) ne w e
 
         few : (k + 1) + length (elements ws (w .b)) ≤ 16
         few = let r = h .ready in room-at R n (r .home) ws ss used F l (r .on .fine) (r .is) ne w e k (h .few)
@@ -99,17 +100,14 @@ module _ (R n u : ℕ) (m : Map) (ws₀ ss₀ : List ℕ) (used₀ F d l₀ : �
         pub room-left : k < 16
         room-left = let f = few in omega arith
 
-        pub turn-falls : (t : ℕ) → 3 * reach R F (size l₀) ≡ t → 3 * reach R F (suc (w .a)) + 2 < t
+        pub turn-falls : (t : ℕ) → 2 * reach R F (size l₀) ≡ t → 2 * reach R F (suc (w .a)) + 1 < t
         turn-falls t z = let a = lower .0 in let b = h .less in omega arith
 
         pub turn-less : size (w .b) < size l
         turn-less = lower .1
 
         pub turn-head : ReadyT R n u m ws ss used F d (w .a)
-        turn-head =
-            let r = h .ready in
-            let a = lower .0 in
-            record { home = r .home; is = parts .0; on = on-part d (suc (w .a)) (r .on) (omega arith); known = rw (e .a-is) (walk-first ne (r .known)) }
+        turn-head = first-ready (h .ready) ne w e
 
         module _ (ws₁ ss₁ : List ℕ) (x : Walked) (p : WalksT R n u m ws ss used F d (w .a) ws₁ ss₁ x) where
           pub turn-stops : (e₁ : Failure) → x ≡ Failed e₁ → WalksL R n u m ws₀ ss₀ used₀ F d l₀ ws₁ ss₁ (Failed e₁)

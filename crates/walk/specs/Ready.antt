@@ -1,6 +1,6 @@
 -- What the walk of a term asks, and that it still holds where the code goes on.
 use Prim.Native.Nat.{ℕ, suc, _+_, _*_, _<_, _≤_}
-use mathlib.Core.Path.{_≡_, refl, sym, _∙_}
+use mathlib.Core.Path.{_≡_, sym, _∙_}
 use mathlib.Core.List.{List}
 use native.Mathlib.Omega.{arith}
 use native.Mathlib.Decide.{ℕ-discrete}
@@ -17,7 +17,6 @@ use Rattle.table.specs.Reading.{IsRecord}
 use Rattle.places.specs.declared.Map.{Map}
 use Rattle.rules.specs.Words.{NONE, tag, fieldA, fieldB, elements, arguments, variables}
 use Rattle.rules.specs.Store.{push}
-use Rattle.rules.specs.Map.{placeOf}
 use Rattle.laws.specs.Lists.{size}
 use Rattle.invariants.specs.Floor.{Sub, Args, Fine}
 use Rattle.invariants.specs.Grow.{sub-less, args-less}
@@ -33,6 +32,7 @@ use Rattle.places.specs.Follow.{Followed}
 use Rattle.narrow.specs.Narrowing.{Narrowing}
 use Rattle.rewrite.specs.Levels.{Headed, of-constant, of-variable}
 use Rattle.rewrite.specs.Parts.{term-read, body-at, args-at, size-args, few-at, counts-at, hole-held, narrows}
+use Rattle.walk.specs.Head.{headOf, head-at, head-rigid}
 use Rattle.walk.specs.Walks.{mapAt, WalksT, WalksF, WalksL, WalksH, walk-rigid, walk-leaf, walk-escape, walk-hole, hole-hops}
 
 -- what every walk asks, at a measure k
@@ -49,11 +49,6 @@ pub record ReadyT (R n u : ℕ) (m : Map) (ws ss : List ℕ) (used F d r : ℕ) 
   pub is : Sub ws home F used r
   pub on : On R n u m home ws ss used F d (suc r)
   pub known : WalkKnown R (store ws ss used) r
-
--- a term that is no lambda
-pub record ReadyB (R n u : ℕ) (m : Map) (ws ss : List ℕ) (used F d r : ℕ) : Type 0 where
-  pub on : ReadyT R n u m ws ss used F d r
-  pub plain : tag ws r ≡ 6 → ⊥
 
 -- a rigid head without arguments
 pub record ReadyF (R n : ℕ) (m : Map) (ws : List ℕ) (used F d r : ℕ) : Type 0 where
@@ -78,18 +73,18 @@ pub record ReadyH (R n u : ℕ) (m : Map) (ws ss : List ℕ) (used F d r : ℕ) 
 pub on-part : {R n u : ℕ} {m : Map} {home : ℕ → ℕ} {ws ss : List ℕ} {used F d k : ℕ} (d₁ k₁ : ℕ) → On R n u m home ws ss used F d k → d₁ + k₁ ≤ d + k → On R n u m home ws ss used F d₁ k₁
 on-part d₁ k₁ o h = let f = o .fits in record { fine = o .fine; hole = o .hole; whole = o .whole; top = o .top; low = o .low; fits = omega arith }
 
--- the cycle's measure is three times the reach, and one more at a term whose lambdas are not yet taken off, two at an argument
-pub fall-hole : (R F r t : ℕ) → 3 * reach R F (suc r) ≡ t → 3 * reach R F r < t
-fall-hole R F r t z = omega arith
-
-pub fall-argument : (R F r t : ℕ) → 3 * reach R F (suc r) + 2 ≡ t → 3 * reach R F (suc r) + 1 < t
+-- the cycle's measure is twice the reach, and one more at an argument
+pub fall-argument : (R F r t : ℕ) → 2 * reach R F (suc r) + 1 ≡ t → 2 * reach R F (suc r) < t
 fall-argument R F r t z = omega arith
+
+pub fall-occurrence : (R F r t : ℕ) → 2 * reach R F (suc r) + 1 ≡ t → 2 * reach R F r < t
+fall-occurrence R F r t z = omega arith
 
 module _ {R n u : ℕ} {m : Map} {ws ss : List ℕ} {used F d r : ℕ} where
   pub to-read : ReadyT R n u m ws ss used F d r → 4 * r + 3 < length ws
   to-read h = term-read R n (h .home) ws ss used F r (h .on .fine) (h .is)
 
-  look : ReadyT R n u m ws ss used F d r → Looks (eqb F 0) m d
+  pub look : ReadyT R n u m ws ss used F d r → Looks (eqb F 0) m d
   look h = let f = h .on .fits in record { top = h .on .top; whole = h .on .whole; low = h .on .low; fits = omega arith }
 
   -- the body of a lambda
@@ -111,70 +106,38 @@ module _ {R n u : ℕ} {m : Map} {ws ss : List ℕ} {used F d r : ℕ} where
         known = rw (e .a-is) (walk-body (h .known) (sym (e .tag-is) ∙ k));
       }
 
-  -- a term that is no lambda
-  pub to-read-b : ReadyB R n u m ws ss used F d r → 4 * r + 3 < length ws
-  to-read-b h = to-read (h .on)
-
-  pub to-look : ReadyB R n u m ws ss used F d r → Looks (eqb F 0) m d
-  to-look h = look (h .on)
-
-  pub to-push : ReadyB R n u m ws ss used F d r → 4 * R ≤ length ws
-  to-push h = h .on .on .fine .room
-
-  pub to-since : ReadyB R n u m ws ss used F d r → n ≤ used
-  to-since h = h .on .on .fine .since
-
-  pub to-then : (ws₁ : List ℕ) → ReadyB R n u m ws ss used F d r → length ws₁ ≡ length ws → 4 * R ≤ length ws₁
-  to-then ws₁ h e = let c = h .on .on .fine .room in omega arith
-
-  -- an occurrence
-  pub to-hole : (w : Record) → IsRecord ws r w → w .tag ≡ 9 → ReadyB R n u m ws ss used F d r → ReadyH R n u m ws ss used F d r
-  to-hole w e t h = record { on = h .on; occ = sym (e .tag-is) ∙ t }
-
-  pub walked-hole : (w : Record) (ws₁ ss₁ : List ℕ) (x : Walked) → IsRecord ws r w → w .tag ≡ 9 → WalksH R n u m ws ss used F d r ws₁ ss₁ x → WalksT R n u m ws ss used F d r ws₁ ss₁ x
-  walked-hole w ws₁ ss₁ x e t p = walk-hole R n u m ws ss used F d r ws₁ ss₁ x (sym (e .tag-is) ∙ t) p
-
   -- a rigid head
-  module _ (w : Record) (e : IsRecord ws r w) (b : w .tag ≡ 9 → ⊥) (h : ReadyB R n u m ws ss used F d r) where
-    a : w .tag ≡ 6 → ⊥
-    a q = h .plain (sym (e .tag-is) ∙ q)
+  pub headed : (w : Record) (s : Found) (v : ℕ) → IsRecord ws r w → (w .tag ≡ 6 → ⊥) → (w .tag ≡ 9 → ⊥) → ReadyT R n u m ws ss used F d r → headOf (mapAt F m) d w ≡ s → s ≡ At v → Headed (mapAt F m) d w v
+  headed w s v e a b h p q = let lo = h .is .term .low in let hi = h .is .term .high in let z = e .tag-is in head-at _ _ _ s p v (omega arith) (omega arith) q
 
-    pub head-kept : (x : ℕ) → (w .tag ≡ 8 → ⊥) → x ≡ w .a → Headed (mapAt F m) d w x
-    head-kept x c q = let p = h .plain in let lo = h .on .is .term .low in let hi = h .on .is .term .high in let z = e .tag-is in of-constant (omega arith) (sym q)
+  module _ (w : Record) (v : ℕ) (e : IsRecord ws r w) (g : Headed (mapAt F m) d w v) (h : ReadyT R n u m ws ss used F d r) where
+    plain : w .tag ≡ 6 → ⊥
+    plain q = let lo = head-rigid _ _ _ v g .0 in absurd (omega arith)
 
-    args : size (w .b) ≤ r
-    args = size-args R n (h .on .home) ws ss used F r (h .on .on .fine) (h .on .is) w e a
-
-    pub fall-args : (t : ℕ) → 3 * reach R F (suc r) ≡ t → 3 * reach R F (size (w .b)) < t
-    fall-args t z = let s = args in omega arith
+    pub args-size : size (w .b) ≤ r
+    args-size = size-args R n (h .home) ws ss used F r (h .on .fine) (h .is) w e plain
 
     knows : WalkAllKnown R (store ws ss used) (w .b)
-    knows = rw (e .b-is) (go (ℕ-discrete (tag ws r) 7))
+    knows = rw (e .b-is) (go g)
       where
-        go : Dec (tag ws r ≡ 7) → WalkAllKnown R (store ws ss used) (fieldB ws r)
-        go (yes t) = walk-constant (h .on .known) t
-        go (no t) =
-            let lo = h .on .is .term .low in
-            let hi = h .on .is .term .high in
-            let z = e .tag-is in
-            let p = h .plain in
-            walk-variable (h .on .known) (omega arith)
+        go : Headed (mapAt F m) d w v → WalkAllKnown R (store ws ss used) (fieldB ws r)
+        go (of-constant t _) = walk-constant (h .known) (sym (e .tag-is) ∙ t)
+        go (of-variable t _) = walk-variable (h .known) (sym (e .tag-is) ∙ t)
 
     pub to-args : ReadyL R n u m ws ss used F d (w .b)
     to-args =
-        let s = args in
-        let i = h .on .is .below in
+        let s = args-size in
+        let i = h .is .below in
         record {
-          home = h .on .home;
-          is = args-less ws (h .on .home) F F r used (w .b) (args-at R n (h .on .home) ws ss used F r (h .on .on .fine) (h .on .is) w e a) (omega arith) (omega arith);
-          few = few-at R n (h .on .home) ws ss used F r (h .on .on .fine) (h .on .is) w e a;
-          on = on-part d (size (w .b)) (h .on .on) (omega arith);
+          home = h .home;
+          is = args-less ws (h .home) F F r used (w .b) (args-at R n (h .home) ws ss used F r (h .on .fine) (h .is) w e plain) (omega arith) (omega arith);
+          few = few-at R n (h .home) ws ss used F r (h .on .fine) (h .is) w e plain;
+          on = on-part d (size (w .b)) (h .on) (omega arith);
           known = knows;
         }
 
-    pub walked-rigid : (v : ℕ) (ws₁ ss₁ : List ℕ) (x : Walked) (ws₂ : List ℕ) (y : Walked) → Headed (mapAt F m) d w v
-        → WalksL R n u m ws ss used F d (w .b) ws₁ ss₁ x → Then n (over R (w .tag) v) ws₁ x ws₂ y → WalksT R n u m ws ss used F d r ws₂ ss₁ y
-    walked-rigid v ws₁ ss₁ x ws₂ y t p q = walk-rigid R n u m ws ss used F d r w e v ws₁ ss₁ x ws₂ y t (let s = args in omega arith) p q
+    pub walked-rigid : (ws₁ ss₁ : List ℕ) (x : Walked) (ws₂ : List ℕ) (y : Walked) → WalksL R n u m ws ss used F d (w .b) ws₁ ss₁ x → Then n (over R (w .tag) v) ws₁ x ws₂ y → WalksT R n u m ws ss used F d r ws₂ ss₁ y
+    walked-rigid ws₁ ss₁ x ws₂ y p q = walk-rigid R n u m ws ss used F d r w e v ws₁ ss₁ x ws₂ y g (let s = args-size in omega arith) p q
 
   -- an argument that is a rigid head without arguments
   leaf : (w : Record) → IsRecord ws r w → w .b ≡ NONE → 7 ≤ w .tag → w .tag ≤ 8 → ReadyT R n u m ws ss used F d r → ReadyF R n m ws used F d r
@@ -192,6 +155,12 @@ module _ {R n u : ℕ} {m : Map} {ws ss : List ℕ} {used F d r : ℕ} where
   walked-leaf ws₁ x p = p .for u ss
 
   -- an occurrence
+  pub to-hole : (w : Record) → IsRecord ws r w → w .tag ≡ 9 → ReadyT R n u m ws ss used F d r → ReadyH R n u m ws ss used F d r
+  to-hole w e t h = record { on = h; occ = sym (e .tag-is) ∙ t }
+
+  pub walked-hole : (w : Record) (ws₁ ss₁ : List ℕ) (x : Walked) → IsRecord ws r w → w .tag ≡ 9 → WalksH R n u m ws ss used F d r ws₁ ss₁ x → WalksT R n u m ws ss used F d r ws₁ ss₁ x
+  walked-hole w ws₁ ss₁ x e t p = walk-hole R n u m ws ss used F d r ws₁ ss₁ x (sym (e .tag-is) ∙ t) p
+
   pub to-read-h : ReadyH R n u m ws ss used F d r → 4 * r + 3 < length ws
   to-read-h h = to-read (h .on)
 
@@ -220,7 +189,7 @@ module _ {R n u : ℕ} {m : Map} {ws ss : List ℕ} {used F d r : ℕ} where
       let st₁ : getD ss (fieldA ws r) NONE ≡ t = rw (← e .a-is) st in
       rw (g, st₁) at (rises R n (h .on .home) (store ws ss used) F r (h .on .on .fine) (h .on .is .below) (h .occ) (h .on .is .up) (λ q. z (sym st₁ ∙ q)))
 
-  pub fall-hop : (w : Record) (t G k : ℕ) → 3 * reach R F r ≡ k → IsRecord ws r w → getD ss (w .a) NONE ≡ t → (t ≡ NONE → ⊥) → raised n F r ≡ G → ReadyH R n u m ws ss used F d r → 3 * reach R G (suc t) + 1 < k
+  pub fall-hop : (w : Record) (t G k : ℕ) → 2 * reach R F r ≡ k → IsRecord ws r w → getD ss (w .a) NONE ≡ t → (t ≡ NONE → ⊥) → raised n F r ≡ G → ReadyH R n u m ws ss used F d r → 2 * reach R G (suc t) < k
   fall-hop w t G k y e st z g h = let a = risen w t G e st z g h .falls in omega arith
 
   -- the floor there is no 0
@@ -270,15 +239,12 @@ module _ {R n : ℕ} {m : Map} {ws : List ℕ} {used F d r : ℕ} (h : ReadyF R 
   leaf-since = h .since
 
   module _ (w : Record) (e : IsRecord ws r w) where
-    pub leaf-constant : (ws₁ : List ℕ) (x : Walked) → (w .tag ≡ 8 → ⊥) → Does n (push R (w .tag) (w .a) NONE) ws used ws₁ x → WalksF R n m ws used F d r ws₁ x
-    leaf-constant ws₁ x c p =
+    pub leaf-walked : (s : Found) (v : ℕ) (ws₁ : List ℕ) (x : Walked) → headOf (mapAt F m) d w ≡ s → s ≡ At v → Does n (push R (w .tag) v NONE) ws used ws₁ x → WalksF R n m ws used F d r ws₁ x
+    leaf-walked s v ws₁ x p q g =
         let lo = h .rigid .0 in
         let hi = h .rigid .1 in
         let z = e .tag-is in
-        record { for = λ u ss. walk-leaf R n u m ws ss used F d r w e (w .a) ws₁ x (of-constant (omega arith) refl) (e .b-is ∙ h .bare) p }
+        record { for = λ u ss. walk-leaf R n u m ws ss used F d r w e v ws₁ x (head-at _ _ _ s p v (omega arith) (omega arith) q) (e .b-is ∙ h .bare) g }
 
-    pub leaf-variable : (s : Found) (v : ℕ) (ws₁ : List ℕ) (x : Walked) → w .tag ≡ 8 → placeOf (mapAt F m) d (w .a) ≡ s → s ≡ At v → Does n (push R (w .tag) v NONE) ws used ws₁ x → WalksF R n m ws used F d r ws₁ x
-    leaf-variable s v ws₁ x t p q g = record { for = λ u ss. walk-leaf R n u m ws ss used F d r w e v ws₁ x (of-variable t (p ∙ q)) (e .b-is ∙ h .bare) g }
-
-    pub leaf-escape : (s : Found) → w .tag ≡ 8 → placeOf (mapAt F m) d (w .a) ≡ s → s ≡ Nowhere → WalksF R n m ws used F d r ws (Failed Escape)
-    leaf-escape s t p q = record { for = λ u ss. walk-escape R n u m ws ss used F d r w e s t p q }
+    pub leaf-escape : (s : Found) → headOf (mapAt F m) d w ≡ s → s ≡ Nowhere → WalksF R n m ws used F d r ws (Failed Escape)
+    leaf-escape s p q = record { for = λ u ss. walk-escape R n u m ws ss used F d r w e s p q }

@@ -17,7 +17,7 @@ use Rattle.table.specs.Reading.{IsRecord}
 use Rattle.places.specs.declared.Map.{Map}
 use Rattle.rules.specs.Words.{NONE, tag, fieldA, fieldB, elements, arguments, variables}
 use Rattle.rules.specs.Store.{Out, _>>=_, fail, push, solved, solution}
-use Rattle.rules.specs.Map.{Map as Pairs, placeOf, follow}
+use Rattle.rules.specs.Map.{Map as Pairs, follow}
 use Rattle.rules.specs.Rewrite.{writeAll, writeTerm}
 use Rattle.rules.specs.Walk.{keepPlaced, walkHole, walk}
 use Rattle.laws.specs.Lists.{size}
@@ -27,6 +27,7 @@ use Rattle.places.specs.Maps.{mapOf}
 use Rattle.places.specs.Lists.{varsOf}
 use Rattle.places.specs.Follow.{Followed}
 use Rattle.rewrite.specs.Levels.{fuel, Headed, level-lambda, level-rigid, level-leaf, level-escape, level-hole}
+use Rattle.walk.specs.Head.{headOf, head-nowhere}
 
 -- the map on the side of a pair, under floor 0, and inside a solution
 abbrev pub mapAt : ℕ → Map → Pairs
@@ -76,9 +77,11 @@ module _ (R n u : ℕ) (m : Map) (ws ss : List ℕ) (used F d r : ℕ) where
     pub walk-leaf : (v : ℕ) (ws₁ : List ℕ) (x : Walked) → Headed (mapAt F m) d w v → w .b ≡ NONE → Does n (push R (w .tag) v NONE) ws used ws₁ x → WalksT R n u m ws ss used F d r ws₁ ss x
     walk-leaf v ws₁ x t z p = more _ _ _ (p .grown) λ k hk. level-leaf (walkHole (walk k R u) R u) (walk k R u) R ws (mapAt F m) d r (store ws ss used) w e v t z ∙ p .run ss
 
-    pub walk-escape : (s : Found) → w .tag ≡ 8 → placeOf (mapAt F m) d (w .a) ≡ s → s ≡ Nowhere → WalksT R n u m ws ss used F d r ws ss (Failed Escape)
+    pub walk-escape : (s : Found) → headOf (mapAt F m) d w ≡ s → s ≡ Nowhere → WalksT R n u m ws ss used F d r ws ss (Failed Escape)
     unfolding fail
-    walk-escape s t p q = more _ _ _ (since-failed _ _) λ k hk. level-escape (walkHole (walk k R u) R u) (walk k R u) R ws (mapAt F m) d r (store ws ss used) w e t (p ∙ q)
+    walk-escape s p q =
+        let z = head-nowhere (mapAt F m) d w s p q in
+        more _ _ _ (since-failed _ _) λ k hk. level-escape (walkHole (walk k R u) R u) (walk k R u) R ws (mapAt F m) d r (store ws ss used) w e (z .0) (z .1)
 
   pub walk-hole : (ws₁ ss₁ : List ℕ) (x : Walked) → tag ws r ≡ 9 → WalksH R n u m ws ss used F d r ws₁ ss₁ x → WalksT R n u m ws ss used F d r ws₁ ss₁ x
   walk-hole ws₁ ss₁ x t h = more _ _ _ (h .grown) λ k hk. level-hole (walkHole (walk k R u) R u) (walk k R u) R ws (mapAt F m) d r (store ws ss used) t ∙ h .run k (omega arith)

@@ -12,11 +12,14 @@ use store::Walked;
 use store::push;
 use store::solution_of;
 use store::then_over;
+use store::then_under;
 use table::CA;
+use table::CE;
 use table::HA;
 use table::Hole;
 use table::LA;
 use table::NONE;
+use table::Record;
 use table::VA;
 use table::Variable;
 use table::read;
@@ -25,9 +28,12 @@ ghost use Prim.Native.Nat.{_<_};
 ghost use lib.ListN.{length};
 ghost use Rattle.rules.specs.Walk.{assign as assignOf};
 ghost use Rattle.store.specs.Said.{Does²};
+ghost use Rattle.places.specs.Maps.{mapOf};
+ghost use Rattle.places.specs.Looking.{Looks};
+ghost use Rattle.walk.specs.Head.{headOf};
 ghost use Rattle.walk.specs.Walks.{WalksT, WalksF, WalksL, WalksH};
 ghost use Rattle.invariants.specs.Rise.{raised};
-ghost use Rattle.walk.specs.Ready.{ReadyT, ReadyB, ReadyF, ReadyL, ReadyH};
+ghost use Rattle.walk.specs.Ready.{ReadyT, ReadyF, ReadyL, ReadyH};
 ghost use Rattle.walk.specs.Assign.{Assigning, Records};
 
 // What the parts of a walk share: records are written from n on, up to `room`; this hole is solved; the floor is 0 on the side of a pair,
@@ -51,7 +57,18 @@ fn raise(n: u32, floor: u32, at: u32) -> u32
     at + 1
 }
 
-// The walk of a term: of the body below its lambdas, and then the lambdas.
+// What a rigid head is written as: a constant as it is, a variable as its place.
+fn head_of(map: Map, above: bool, depth: u32, rec: Record) -> Found
+    requires { ⌜ Looks above map depth ⌝ }
+    ensures { λ r. ⌜ headOf (mapOf above map) depth rec ≡ r ⌝ }
+{
+    if rec.tag == VA {
+        return place_of(map, above, depth, Variable(rec.a));
+    }
+    Found::At(rec.a)
+}
+
+// The walk of a term: a head is looked at before its arguments, an only argument takes no walk of a list, and lambdas are written after the body.
 fn walk_term(
     table: &mut [u32],
     solutions: &mut [u32],
@@ -72,39 +89,28 @@ fn walk_term(
         term = rec.a;
         rec = read(table, term);
     }
-    let body = walk_body(table, solutions, task, used, map, inner, term);
-    then_lambdas(table, task.n, task.room, inner - depth, body)
-}
-
-// The walk of a term that is no lambda: a head is looked at before its arguments; a variable without a place escapes.
-fn walk_body(
-    table: &mut [u32],
-    solutions: &mut [u32],
-    task: Task,
-    used: u32,
-    map: Map,
-    depth: u32,
-    at: u32,
-) -> Walked
-    requires { ⌜ ReadyB (task .room) (task .n) (task .hole .0) map (now table) (now solutions) used (task .floor) depth at ⌝ }
-    ensures { λ r. ⌜ WalksT (task .room) (task .n) (task .hole .0) map (now (table .entry)) (now (solutions .entry)) used (task .floor) depth at (now (table .exit)) (now (solutions .exit)) r ⌝ }
-{
-    let rec = read(table, at);
+    let k = inner - depth;
     if rec.tag == HA {
-        return walk_hole(table, solutions, task, used, map, depth, at);
+        let hole = walk_hole(table, solutions, task, used, map, inner, term);
+        return then_lambdas(table, task.n, task.room, k, hole);
     }
-    let mut head = rec.a;
-    if rec.tag == VA {
-        let Found::At(v) = place_of(map, task.floor == 0, depth, Variable(rec.a)) else {
-            return Walked::Failed(Failure::Escape);
-        };
-        head = v;
-    }
+    let Found::At(head) = head_of(map, task.floor == 0, inner, rec) else {
+        return Walked::Failed(Failure::Escape);
+    };
     if rec.b == NONE {
-        return push(table, task.n, used, task.room, rec.tag, head, NONE);
+        let leaf = push(table, task.n, used, task.room, rec.tag, head, NONE);
+        return then_lambdas(table, task.n, task.room, k, leaf);
     }
-    let args = walk_args(table, solutions, task, used, map, depth, rec.b);
-    then_over(table, task.n, task.room, rec.tag, head, args)
+    let cell = read(table, rec.b);
+    if cell.b == NONE {
+        let only = walk_term(table, solutions, task, used, map, inner, cell.a);
+        let args = then_under(table, task.n, task.room, CE, NONE, only);
+        let applied = then_over(table, task.n, task.room, rec.tag, head, args);
+        return then_lambdas(table, task.n, task.room, k, applied);
+    }
+    let args = walk_args(table, solutions, task, used, map, inner, rec.b);
+    let applied = then_over(table, task.n, task.room, rec.tag, head, args);
+    then_lambdas(table, task.n, task.room, k, applied)
 }
 
 // The walk of a rigid head without arguments: no solution is read or written.
@@ -113,16 +119,13 @@ fn walk_leaf(table: &mut [u32], task: Task, used: u32, map: Map, depth: u32, at:
     ensures { λ r. ⌜ WalksF (task .room) (task .n) map (now (table .entry)) used (task .floor) depth at (now (table .exit)) r ⌝ }
 {
     let rec = read(table, at);
-    if rec.tag != VA {
-        return push(table, task.n, used, task.room, rec.tag, rec.a, NONE);
-    }
-    let Found::At(v) = place_of(map, task.floor == 0, depth, Variable(rec.a)) else {
+    let Found::At(head) = head_of(map, task.floor == 0, depth, rec) else {
         return Walked::Failed(Failure::Escape);
     };
-    push(table, task.n, used, task.room, rec.tag, v, NONE)
+    push(table, task.n, used, task.room, rec.tag, head, NONE)
 }
 
-// The walk of an argument: most are rigid heads without arguments, and these take no walk of a term.
+// The walk of an argument: most are rigid heads without arguments; these, and occurrences, take no walk of a term.
 fn walk_argument(
     table: &mut [u32],
     solutions: &mut [u32],
@@ -143,6 +146,9 @@ fn walk_argument(
         if rec.tag == VA {
             return walk_leaf(table, task, used, map, depth, at);
         }
+    }
+    if rec.tag == HA {
+        return walk_hole(table, solutions, task, used, map, depth, at);
     }
     walk_term(table, solutions, task, used, map, depth, at)
 }

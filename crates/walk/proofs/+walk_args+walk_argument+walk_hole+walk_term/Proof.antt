@@ -1,62 +1,57 @@
--- `walk_args`, `walk_argument`, `walk_body`, `walk_hole` and `walk_term` of `walk`, which call each other, meet their contracts.
+-- `walk_args`, `walk_argument`, `walk_hole` and `walk_term` of `walk`, which call each other, meet their contracts.
 use borrow.Author.Needs.{needs}
 use Prim.Native.Nat.{suc}
-use mathlib.Core.Logic.{⊎-elim}
-use Rattle.rewrite.specs.Levels.{Headed, head-placed}
+use native.Mathlib.Omega.{arith}
 use Rattle.laws.specs.Lists.{size}
 use Rattle.places.specs.Filling.{fits-index, fits-next}
 use Rattle.invariants.specs.Rise.{reach}
-use Rattle.walk.specs.Walks.{mapAt, Gives, walk-escape, walk-leaf, hole-occurs, hole-keeps}
-use Rattle.walk.specs.Ready.{ReadyT, to-constant, to-variable, walked-leaf, fall-argument, to-read, to-read-b, to-look, to-push, to-since, to-then, fall-hole, to-hole, walked-hole, head-kept, fall-args, to-args, walked-rigid, to-read-h, to-looks-h, to-counts, to-solution, to-keep, to-raise, fall-hop, to-hop, hops}
-use Rattle.rewrite.specs.Below.{Below, below-first, below-depth, below-less, below-read, below-next, below-plain, below-then}
-use Rattle.walk.specs.Below.{opens, below-ends}
+use Rattle.walk.specs.Walks.{hole-occurs, hole-keeps}
+use Rattle.walk.specs.Ready.{to-constant, to-variable, walked-leaf, fall-argument, fall-occurrence, to-read, to-hole, walked-hole, to-read-h, to-looks-h, to-counts, to-solution, to-keep, to-raise, fall-hop, to-hop, hops}
+use Rattle.rewrite.specs.Below.{below-first, below-depth, below-less, below-read, below-next, below-then}
+use Rattle.walk.specs.Below.{Within, Rigid, opens, below-look, below-room, below-since, fall-hole, below-hole, ends-hole, ends-escape, below-rigid, ends-leaf, rigid-room, rigid-args, fall-args, ends-rigid, cell-reads, rigid-only, fall-only, ends-only}
 use Rattle.walk.specs.Each.{Turn, turn-first, turn-kept, turn-held, turn-holds, turn-array, turn-cells, turn-ends, turn-read, turn-falls, turn-less, turn-head, room-left, turn-stops, turn-next}
 use Prim.Native.Nat.{ℕ, _+_, _*_, _<_}
+use denote.Ref.{now}
 use borrow.Fn.Kinds.{In}
 use borrow.Fn.PlainCycle.{Measures, is, falls, and}
 use Rattle.walk.proofs.walk_args.Reads as walk-args
 use Rattle.walk.proofs.walk_args.Kinds as walk-args-kinds
-use Rattle.walk.proofs.+walk_args+walk_argument+walk_body+walk_hole+walk_term.Lts-walk_args as walk-args-lts
+use Rattle.walk.proofs.+walk_args+walk_argument+walk_hole+walk_term.Lts-walk_args as walk-args-lts
 use Rattle.walk.proofs.walk_argument.Reads as walk-argument
 use Rattle.walk.proofs.walk_argument.Kinds as walk-argument-kinds
-use Rattle.walk.proofs.+walk_args+walk_argument+walk_body+walk_hole+walk_term.Lts-walk_argument as walk-argument-lts
-use Rattle.walk.proofs.walk_body.Reads as walk-body
-use Rattle.walk.proofs.walk_body.Kinds as walk-body-kinds
-use Rattle.walk.proofs.+walk_args+walk_argument+walk_body+walk_hole+walk_term.Lts-walk_body as walk-body-lts
+use Rattle.walk.proofs.+walk_args+walk_argument+walk_hole+walk_term.Lts-walk_argument as walk-argument-lts
 use Rattle.walk.proofs.walk_hole.Reads as walk-hole
 use Rattle.walk.proofs.walk_hole.Kinds as walk-hole-kinds
-use Rattle.walk.proofs.+walk_args+walk_argument+walk_body+walk_hole+walk_term.Lts-walk_hole as walk-hole-lts
+use Rattle.walk.proofs.+walk_args+walk_argument+walk_hole+walk_term.Lts-walk_hole as walk-hole-lts
 use Rattle.walk.proofs.walk_term.Reads as walk-term
 use Rattle.walk.proofs.walk_term.Kinds as walk-term-kinds
-use Rattle.walk.proofs.+walk_args+walk_argument+walk_body+walk_hole+walk_term.Lts-walk_term as walk-term-lts
+use Rattle.walk.proofs.+walk_args+walk_argument+walk_hole+walk_term.Lts-walk_term as walk-term-lts
 use Rattle.narrow.proofs.keep_placed.Reads as keep-placed-reads
 use Rattle.narrow.proofs.push_cells.Reads as push-cells-reads
 use Rattle.places.proofs.follow.Reads as follow-reads
-use Rattle.places.proofs.place_of.Reads as place-of-reads
 use Rattle.rewrite.proofs.then_lambdas.Reads as then-lambdas-reads
 use Rattle.store.proofs.push.Reads as push-reads
 use Rattle.store.proofs.solution_of.Reads as solution-of-reads
 use Rattle.store.proofs.then_over.Reads as then-over-reads
+use Rattle.store.proofs.then_under.Reads as then-under-reads
 use Rattle.table.proofs.read.Reads as read-reads
+use Rattle.walk.proofs.head_of.Reads as head-of-reads
 use Rattle.walk.proofs.raise.Reads as raise-reads
 use Rattle.walk.proofs.walk_leaf.Reads as walk-leaf-reads
-use Rattle.walk.proofs.+walk_args+walk_argument+walk_body+walk_hole+walk_term.{statement}
-use Rattle.walk.proofs.+walk_args+walk_argument+walk_body+walk_hole+walk_term.Tie.{close}
+use Rattle.walk.proofs.+walk_args+walk_argument+walk_hole+walk_term.{statement}
+use Rattle.walk.proofs.+walk_args+walk_argument+walk_hole+walk_term.Tie.{close}
 
 abbrev μ-walk-args : Measures 2 walk-args-kinds.ps ℕ
-μ-walk-args κs a = 3 * reach (a .1 .1 .0 .room) (a .1 .1 .0 .floor) (size (a .1 .1 .1 .1 .1 .1 .0))
+μ-walk-args κs a = 2 * reach (a .1 .1 .0 .room) (a .1 .1 .0 .floor) (size (a .1 .1 .1 .1 .1 .1 .0))
 
 abbrev μ-walk-argument : Measures 2 walk-argument-kinds.ps ℕ
-μ-walk-argument κs a = 3 * reach (a .1 .1 .0 .room) (a .1 .1 .0 .floor) (suc (a .1 .1 .1 .1 .1 .1 .0)) + 2
-
-abbrev μ-walk-body : Measures 2 walk-body-kinds.ps ℕ
-μ-walk-body κs a = 3 * reach (a .1 .1 .0 .room) (a .1 .1 .0 .floor) (suc (a .1 .1 .1 .1 .1 .1 .0))
+μ-walk-argument κs a = 2 * reach (a .1 .1 .0 .room) (a .1 .1 .0 .floor) (suc (a .1 .1 .1 .1 .1 .1 .0)) + 1
 
 abbrev μ-walk-hole : Measures 2 walk-hole-kinds.ps ℕ
-μ-walk-hole κs a = 3 * reach (a .1 .1 .0 .room) (a .1 .1 .0 .floor) (a .1 .1 .1 .1 .1 .1 .0)
+μ-walk-hole κs a = 2 * reach (a .1 .1 .0 .room) (a .1 .1 .0 .floor) (a .1 .1 .1 .1 .1 .1 .0)
 
 abbrev μ-walk-term : Measures 2 walk-term-kinds.ps ℕ
-μ-walk-term κs a = 3 * reach (a .1 .1 .0 .room) (a .1 .1 .0 .floor) (suc (a .1 .1 .1 .1 .1 .1 .0)) + 1
+μ-walk-term κs a = 2 * reach (a .1 .1 .0 .room) (a .1 .1 .0 .floor) (suc (a .1 .1 .1 .1 .1 .1 .0))
 
 abbrev walk-args-at : ℕ → In 2 walk-args-kinds.ps
 walk-args-at t = and 2 walk-args-kinds.ps (is 2 walk-args-kinds.ps μ-walk-args t) walk-args.Pre
@@ -71,13 +66,6 @@ walk-argument-at t = and 2 walk-argument-kinds.ps (is 2 walk-argument-kinds.ps �
 abbrev walk-argument-below : ℕ → In 2 walk-argument-kinds.ps
 walk-argument-below t =
     and 2 walk-argument-kinds.ps (falls 2 walk-argument-kinds.ps _<_ μ-walk-argument t) walk-argument.Pre
-
-abbrev walk-body-at : ℕ → In 2 walk-body-kinds.ps
-walk-body-at t = and 2 walk-body-kinds.ps (is 2 walk-body-kinds.ps μ-walk-body t) walk-body.Pre
-
-abbrev walk-body-below : ℕ → In 2 walk-body-kinds.ps
-walk-body-below t =
-    and 2 walk-body-kinds.ps (falls 2 walk-body-kinds.ps _<_ μ-walk-body t) walk-body.Pre
 
 abbrev walk-hole-at : ℕ → In 2 walk-hole-kinds.ps
 walk-hole-at t = and 2 walk-hole-kinds.ps (is 2 walk-hole-kinds.ps μ-walk-hole t) walk-hole.Pre
@@ -100,19 +88,20 @@ abbrev walk-args-μ-loop : walk-args-lts.MeasureT-loop
 walk-args-μ-loop table₀ solutions₀ task used map depth list noted₀ k₀ taken₀ left₀ table solutions noted k taken left = size left
 
 abbrev walk-term-Inv-loop : walk-term-lts.InvT-loop
-walk-term-Inv-loop table solutions task used map depth at inner₀ term₀ rec₀ inner term rec = Below (ReadyT (task .room) (task .n) (task .hole .0) map table solutions used (task .floor)) (λ s. Gives (task .room) (task .hole .0) map table s used (task .floor)) (task .room) table table depth at inner term rec
+walk-term-Inv-loop table solutions task used map depth at inner₀ term₀ rec₀ inner term rec = Within (task .room) (task .n) (task .hole .0) map table solutions used (task .floor) depth at inner term rec
 
 abbrev walk-term-μ-loop : walk-term-lts.MeasureT-loop
 walk-term-μ-loop table solutions task used map depth at inner₀ term₀ rec₀ inner term rec = term
 
--- the head's number, where the ways of a constant and a variable meet
-headed : (t : ℕ) (c : walk-body-lts.Joined2 (read-reads.Asked, read-reads.Learnt, walk-hole-below t, walk-hole.Post, place-of-reads.Asked, place-of-reads.Learnt, push-reads.Asked, push-reads.Learnt, walk-args-below t, walk-args.Post, then-over-reads.Asked, then-over-reads.Learnt) (walk-body-at t) walk-body.Post)
-    → Headed (mapAt (c .before .before .before .before .before .before .before .before .args .task .floor) (c .before .before .before .before .before .before .before .before .args .map)) (c .before .before .before .before .before .before .before .before .args .depth) (c .before .before .before .before .read .result) (c .if2 .head)
-headed t c = ⊎-elim (λ w. search head-placed) (λ w. search head-kept) (c .if2 .came)
+-- what is known once a head is looked at
+rigid : (t : ℕ) (c : walk-term-lts.After-known-told (read-reads.Asked, read-reads.Learnt, walk-hole-below t, walk-hole.Post, then-lambdas-reads.Asked, then-lambdas-reads.Learnt, head-of-reads.Asked, head-of-reads.Learnt, push-reads.Asked, push-reads.Learnt, walk-term-below t, walk-term.Post, then-under-reads.Asked, then-under-reads.Learnt, then-over-reads.Asked, then-over-reads.Learnt, walk-args-below t, walk-args.Post) (walk-term-at t) walk-term.Post walk-term-Inv-loop walk-term-μ-loop)
+    → let a = c .before .before .before .before .before .before .before .before .before .before .before .before .before .before .args in let l = c .before .before .before .before .before .before .before .before .before .loop in
+    Rigid (a .task .room) (a .task .n) (a .task .hole .0) (a .map) (now (a .table)) (now (a .solutions)) (a .used) (a .task .floor) (a .depth) (a .at) (l .inner) (l .term) (l .rec) (c .before .head .given .0 .0)
+rigid t c = search below-rigid
 
-pub +walk-args+walk-argument+walk-body+walk-hole+walk-term-spec : {M : Type 1} → statement M
-+walk-args+walk-argument+walk-body+walk-hole+walk-term-spec =
-    close μ-walk-args μ-walk-argument μ-walk-body μ-walk-hole μ-walk-term (λ t. walk-args-lts.spec (
+pub +walk-args+walk-argument+walk-hole+walk-term-spec : {M : Type 1} → statement M
++walk-args+walk-argument+walk-hole+walk-term-spec =
+    close μ-walk-args μ-walk-argument μ-walk-hole μ-walk-term (λ t. walk-args-lts.spec (
       read-reads.Asked,
       read-reads.Learnt,
       walk-argument-below t,
@@ -147,6 +136,8 @@ pub +walk-args+walk-argument+walk-body+walk-hole+walk-term-spec : {M : Type 1} �
       read-reads.Learnt,
       walk-leaf-reads.Asked,
       walk-leaf-reads.Learnt,
+      walk-hole-below t,
+      walk-hole.Post,
       walk-term-below t,
       walk-term.Post,
     )
@@ -159,44 +150,14 @@ pub +walk-args+walk-argument+walk-body+walk-hole+walk-term-spec : {M : Type 1} �
     (λ c κs. search to-variable)
     (λ c. search needs)
     (λ c. search walked-leaf)
+    (λ c κs. (search fall-occurrence, search to-hole))
+    (λ c. search needs)
+    (λ c. search needs)
+    (λ c. search walked-hole)
     (λ c κs. (search fall-argument, search needs))
     (λ c. search needs)
     (λ c. search needs)
     (λ c. search needs))
-    (λ t. walk-body-lts.spec (
-      read-reads.Asked,
-      read-reads.Learnt,
-      walk-hole-below t,
-      walk-hole.Post,
-      place-of-reads.Asked,
-      place-of-reads.Learnt,
-      push-reads.Asked,
-      push-reads.Learnt,
-      walk-args-below t,
-      walk-args.Post,
-      then-over-reads.Asked,
-      then-over-reads.Learnt,
-    )
-    (walk-body-at t)
-    walk-body.Post
-    (λ c κs. search to-read-b)
-    (λ c κs. (search fall-hole, search to-hole))
-    (λ c. search needs)
-    (λ c. search needs)
-    (λ c. search walked-hole)
-    (λ c κs. search to-look)
-    (λ c. search needs)
-    (λ c. search needs)
-    (λ c. search needs)
-    (λ c. search walk-escape)
-    (λ c κs. (search to-push, search to-since))
-    (λ c. search needs)
-    (λ c. let q = headed t (c .before .before .before .before .before .before) in search walk-leaf)
-    (λ c κs. (search fall-args, search to-args))
-    (λ c κs. (search to-then, search needs))
-    (λ c. search needs)
-    (λ c. search needs)
-    (λ c. walked-rigid _ (c .before .before .before .before .before .before .before .before .before .before .before .before .before .before .before .before .before .read .ensures) (c .before .before .before .before .before .before .before .before .before .before .before .before .before .before .before .if1 .left) (c .before .before .before .before .before .before .before .before .before .before .before .before .before .before .before .before .before .before .before .before .before .pre .1) _ _ _ _ _ _ (headed t (c .before .before .before .before .before .before .before .before .before .before .before .before .before)) (c .before .before .before .before .before .before .before .before .walk-args .ensures) (c .before .before .then-over .ensures)))
     (λ t. walk-hole-lts.spec (
       read-reads.Asked,
       read-reads.Learnt,
@@ -230,10 +191,22 @@ pub +walk-args+walk-argument+walk-body+walk-hole+walk-term-spec : {M : Type 1} �
     λ t. walk-term-lts.spec (
       read-reads.Asked,
       read-reads.Learnt,
-      walk-body-below t,
-      walk-body.Post,
+      walk-hole-below t,
+      walk-hole.Post,
       then-lambdas-reads.Asked,
       then-lambdas-reads.Learnt,
+      head-of-reads.Asked,
+      head-of-reads.Learnt,
+      push-reads.Asked,
+      push-reads.Learnt,
+      walk-term-below t,
+      walk-term.Post,
+      then-under-reads.Asked,
+      then-under-reads.Learnt,
+      then-over-reads.Asked,
+      then-over-reads.Learnt,
+      walk-args-below t,
+      walk-args.Post,
     )
     (walk-term-at t)
     walk-term.Post
@@ -245,9 +218,32 @@ pub +walk-args+walk-argument+walk-body+walk-hole+walk-term-spec : {M : Type 1} �
     (λ c κs. search below-read)
     (λ c. search below-less)
     (λ c. search below-next)
-    (λ c κs. (search needs, search below-plain))
     (λ c. search needs)
+    (λ c κs. (search fall-hole, search below-hole))
     (λ c κs. (search below-then, search needs))
     (λ c. search needs)
     (λ c. search needs)
-    (λ c. search below-ends)
+    (λ c. search ends-hole)
+    (λ c κs. search below-look)
+    (λ c. search needs)
+    (λ c. search needs)
+    (λ c. search needs)
+    (λ c. search ends-escape)
+    (λ c κs. (search below-room, search below-since))
+    (λ c κs. (search below-then, search needs))
+    (λ c. search needs)
+    (λ c. let h = rigid t (c .before .before .before .before .before .before .before .before .before .before) in search ends-leaf)
+    (λ c κs. let h = rigid t (c .before .before .before) in search cell-reads)
+    (λ c κs. let h = rigid t (c .before .before .before .before .before .before .before .before) in (fall-only h (c .before .before .before .before .before .before .if3 .left) _ (c .before .before .before .before .read3 .ensures) _ (c .before .before .before .before .before .before .before .before .before .before .before .before .before .before .before .before .before .before .before .before .before .before .pre .0), search rigid-only))
+    (λ c κs. let h = rigid t (c .before .before .before .before .before .before .before .before .before .before .before .before .before .before) in (omega (arith, rigid-room h), search needs))
+    (λ c κs. let h = rigid t (c .before .before .before .before .before .before .before .before .before .before .before .before .before .before .before .before .before .before) in (omega (arith, rigid-room h), search needs))
+    (λ c κs. let h = rigid t (c .before .before .before .before .before .before .before .before .before .before .before .before .before .before .before .before .before .before .before .before .before .before) in (omega (arith, rigid-room h), search needs))
+    (λ c. search needs)
+    (λ c. search needs)
+    (λ c. let h = rigid t (c .before .before .before .before .before .before .before .before .before .before .before .before .before .before .before .before .before .before .before .before .before .before .before .before .before) in ends-only h (c .before .before .before .before .before .before .before .before .before .before .before .before .before .before .before .before .before .before .before .before .before .before .before .if3 .left) _ (c .before .before .before .before .before .before .before .before .before .before .before .before .before .before .before .before .before .before .before .before .before .read3 .ensures) _ _ _ _ _ _ _ _ _ (c .before .before .before .before .before .before .before .before .before .before .before .before .before .before .before .before .before .before .before .if4 .taken) (c .before .before .before .before .before .before .before .before .before .before .before .before .before .before .before .before .walk-term .ensures) (c .before .before .before .before .before .before .before .before .before .before .then-under .ensures) (c .before .before .before .before .before .before .then-over .ensures) (c .before .before .then-lambdas3 .ensures))
+    (λ c κs. let h = rigid t (c .before .before .before .before .before .before .before .before) in (fall-args h _ (c .before .before .before .before .before .before .before .before .before .before .before .before .before .before .before .before .before .before .before .before .before .before .pre .0), search rigid-args))
+    (λ c κs. let h = rigid t (c .before .before .before .before .before .before .before .before .before .before .before .before .before .before) in (omega (arith, rigid-room h), search needs))
+    (λ c κs. let h = rigid t (c .before .before .before .before .before .before .before .before .before .before .before .before .before .before .before .before .before .before) in (omega (arith, rigid-room h), search needs))
+    (λ c. search needs)
+    (λ c. search needs)
+    (λ c. let h = rigid t (c .before .before .before .before .before .before .before .before .before .before .before .before .before .before .before .before .before .before .before .before .before) in search ends-rigid)

@@ -1,0 +1,11 @@
+-- `walk::head_of` meets its contract.
+use Rattle.walk.specs.Head.{head-variable, head-constant}
+use borrow.Author.Needs.{needs}
+use Rattle.walk.proofs.head_of.Statement.{statement}
+use Rattle.walk.proofs.head_of.Tie as tie
+use Rattle.walk.proofs.head_of.Reads as reads
+use Rattle.walk.proofs.head_of.Lts as lts
+use Rattle.places.proofs.place_of.Reads as place-of-reads
+
+pub head-of-spec : {M : Type 1} → statement M
+head-of-spec = tie.close (tie.spec (λ c κs. search needs) (λ c. search head-variable) (λ c. search head-constant))

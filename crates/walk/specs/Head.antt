@@ -1,0 +1,45 @@
+-- What a rigid head is written as: a constant as it is, a variable as its place.
+use Prim.Native.Nat.{ℕ, _≤_}
+use mathlib.Core.Path.{_≡_, refl, sym, _∙_}
+use mathlib.Core.Bool.{true, false}
+use native.Mathlib.Omega.{arith}
+use native.Mathlib.Decide.{ℕ-discrete}
+use lib.Dec.{eqb}
+use borrow.Author.Tests.{eq-eqb, ne-eqb}
+use Rattle.rules.specs.declared.Found.{Found}
+use Rattle.rules.specs.declared.Found.the-variants.{At, Nowhere}
+use Rattle.table.specs.declared.Record.{Record}
+use Rattle.rules.specs.Words.{VA}
+use Rattle.rules.specs.Map.{Map, placeOf}
+use Rattle.rewrite.specs.Levels.{Headed, of-constant, of-variable}
+
+unfoldable pub headOf : Map → ℕ → Record → Found
+headOf m d w = elim (eqb (w .tag) VA) [ true ↦ placeOf m d (w .a) | false ↦ At (w .a) ]
+
+module _ (m : Map) (d : ℕ) (w : Record) where
+  pub head-variable : (s : Found) → w .tag ≡ 8 → placeOf m d (w .a) ≡ s → headOf m d w ≡ s
+  unfolding headOf
+  head-variable s t p = rw (eq-eqb _ _ t, headOf) p
+
+  pub head-constant : (w .tag ≡ 8 → ⊥) → headOf m d w ≡ At (w .a)
+  unfolding headOf
+  head-constant c = rw (ne-eqb _ _ c, headOf)
+
+  module _ (s : Found) (p : headOf m d w ≡ s) where
+    pub head-at : (v : ℕ) → 7 ≤ w .tag → w .tag ≤ 8 → s ≡ At v → Headed m d w v
+    head-at v lo hi q = go (ℕ-discrete (w .tag) 8)
+      where
+        go : Dec (w .tag ≡ 8) → Headed m d w v
+        go (yes t) = of-variable t (sym (head-variable _ t refl) ∙ p ∙ q)
+        go (no c) = let z : At (w .a) ≡ At v = sym (head-constant c) ∙ p ∙ q in of-constant (omega arith) cc
+
+    pub head-nowhere : s ≡ Nowhere → (w .tag ≡ 8) × (placeOf m d (w .a) ≡ Nowhere)
+    head-nowhere q = go (ℕ-discrete (w .tag) 8)
+      where
+        go : Dec (w .tag ≡ 8) → (w .tag ≡ 8) × (placeOf m d (w .a) ≡ Nowhere)
+        go (yes t) = (t, sym (head-variable _ t refl) ∙ p ∙ q)
+        go (no c) = let z : At (w .a) ≡ Nowhere = sym (head-constant c) ∙ p ∙ q in let no : _≡_ {A = ℕ} 0 1 = cc in absurd (omega arith)
+
+  pub head-rigid : (v : ℕ) → Headed m d w v → (7 ≤ w .tag) × (w .tag ≤ 8)
+  head-rigid v (of-constant t _) = (omega arith, omega arith)
+  head-rigid v (of-variable t _) = (omega arith, omega arith)
