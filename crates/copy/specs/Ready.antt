@@ -10,23 +10,23 @@ use Rattle.store.specs.declared.Walked.{Walked}
 use Rattle.places.specs.declared.Map.{Map}
 use Rattle.table.specs.declared.Record.{Record}
 use Rattle.table.specs.Reading.{IsRecord}
-use Rattle.rules.specs.Words.{NONE, tag, fieldB, elements}
+use Rattle.rules.specs.Words.{NONE, tag, fieldB, elements, arguments, variables}
 use Rattle.rules.specs.Store.{push, pushOccurrence}
 use Rattle.laws.specs.Lists.{size}
 use Rattle.invariants.specs.Floor.{Sub, Args, Fine, limit}
 use Rattle.invariants.specs.Grow.{sub-less, args-less}
 use Rattle.invariants.specs.Places.{Low}
-use Rattle.promise.specs.CopyKnown.{CopyKnown, CopyAllKnown, copy-body, copy-constant, copy-variable}
+use Rattle.promise.specs.CopyKnown.{CopyKnown, CopyAllKnown, copy-body, copy-constant, copy-variable, copy-arguments}
 use Rattle.store.specs.Said.{store, Does, Then, over}
 use Rattle.places.specs.Maps.{mapOf, Whole, side}
 use Rattle.places.specs.Looking.{Looks}
-use Rattle.places.specs.Lists.{Counts}
 use Rattle.places.specs.Follow.{Followed}
 use Rattle.narrow.specs.Writing.{Writing}
 use Rattle.rewrite.specs.Levels.{Headed, of-constant}
 use Rattle.rewrite.specs.Parts.{term-read, body-at, args-at, size-args, counts-at, few-at}
 use Rattle.copy.specs.Copies.{CopiesT, CopiesL, copy-rigid, copy-leaf, copy-hole}
 use Rattle.rewrite.specs.Renamed.{Renaming}
+use Rattle.rewrite.specs.Renamings.{Renamings}
 
 -- what every copy asks, at a measure k
 pub record On (R n : ℕ) (m : Map) (home : ℕ → ℕ) (ws ss : List ℕ) (used d k : ℕ) : Type 0 where
@@ -103,11 +103,14 @@ module _ {R n : ℕ} {m : Map} {ws : List ℕ} {used d r : ℕ} where
     is-nine : tag ws r ≡ 9
     is-nine = sym (e .tag-is) ∙ nine
 
-    pub to-counts : Counts ws (w .b)
-    to-counts = counts-at R n (h .on .home) ws (h .on .ss) used 0 r (h .on .on .fine) (h .on .is) w e is-nine
-
-    pub to-look : Looks false m d
-    to-look = looks (h .on)
+    pub to-names : Renamings ws m d (w .b)
+    unfolding variables arguments
+    to-names =
+        record {
+          counts = counts-at R n (h .on .home) ws (h .on .ss) used 0 r (h .on .on .fine) (h .on .is) w e is-nine;
+          looks = looks (h .on);
+          have = rw (e .b-is) (copy-arguments (h .on .known) is-nine);
+        }
 
     pub to-write : (next : Map) → Followed ws false m d (w .b) next → Writing ws n used R next
     to-write next f = record { room = h .on .on .fine .room; since = h .on .on .fine .since; whole = f .whole }

@@ -3,8 +3,8 @@ use narrow::push_cells;
 use narrow::push_occurrence;
 use places::Map;
 use places::arguments;
-use places::follow;
 use rewrite::renamed;
+use rewrite::renamings;
 use rewrite::then_lambdas;
 use store::Walked;
 use store::push;
@@ -64,7 +64,7 @@ fn copy_body(
 {
     let rec = read(table, at);
     if rec.tag == HA {
-        let kept = follow(table, map, false, depth, rec.b);
+        let kept = renamings(table, map, depth, rec.b);
         return push_occurrence(table, n, used, room, Hole(rec.a), kept, false);
     }
     let mut head = rec.a;

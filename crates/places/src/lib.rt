@@ -25,7 +25,7 @@ pub struct Map {
 }
 
 // The map without a place.
-fn empty() -> Map
+pub fn empty() -> Map
     ensures { λ r. ⌜ noPlace ≡ r ⌝ }
 {
     Map {
@@ -102,7 +102,7 @@ fn place_or_none(map: Map, above: bool, depth: u32, v: Variable) -> u32
 }
 
 // The variable that a hole's argument names.
-fn variable_of(table: &[u32], at: u32) -> Variable
+pub fn variable_of(table: &[u32], at: u32) -> Variable
     requires { ⌜ 4 * at + 3 < length (now table) ⌝ }
     ensures { λ v. ⌜ fieldA (now (table .entry)) at ≡ v .0 ⌝ }
 {

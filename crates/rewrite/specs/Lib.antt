@@ -1,4 +1,5 @@
 pub mod Renamed  -- a variable that has a place, renamed
+pub mod Renamings  -- the map that follows a hole's arguments, each of which has a place
 pub mod Levels  -- one level of a term written anew, by the record read
 pub mod Parts  -- a term of a fine store, by the record read
 pub mod Lambdas  -- lambdas written after a body

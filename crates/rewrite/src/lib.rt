@@ -1,9 +1,13 @@
-// Terms written anew, as the walk, copying and showing share it: where a variable is led that has a place, and lambdas after a body.
+// Terms written anew, as the walk, copying and showing share it: where variables are led that have a place, and lambdas after a body.
 use places::Map;
+use places::empty;
+use places::variable_of;
 use store::Walked;
 use store::then_under;
 use table::LA;
+use table::NONE;
 use table::Variable;
+use table::read;
 ghost use mathlib.Core.Path.{_≡_};
 ghost use Prim.Native.Nat.{_*_, _≤_};
 ghost use lib.ListN.{length};
@@ -11,8 +15,10 @@ ghost use mathlib.Core.Bool.{false};
 ghost use Rattle.rules.specs.declared.Found.the-variants.{At};
 ghost use Rattle.rules.specs.Map.{placeOf};
 ghost use Rattle.places.specs.Maps.{mapOf};
+ghost use Rattle.places.specs.Follow.{Followed};
 ghost use Rattle.store.specs.Said.{Since};
 ghost use Rattle.rewrite.specs.Renamed.{Renaming};
+ghost use Rattle.rewrite.specs.Renamings.{Renamings};
 ghost use Rattle.rewrite.specs.Lambdas.{Under};
 
 // Where a variable that has a place is led; variables bound inside stay.
@@ -25,6 +31,25 @@ pub fn renamed(map: Map, depth: u32, v: Variable) -> u32
     }
     let position = (v.0 - depth) as usize;
     map.places[position] + depth
+}
+
+// The map that follows a hole's arguments, each of which has a place: from each position to that place.
+pub fn renamings(table: &[u32], map: Map, depth: u32, list: u32) -> Map
+    requires { ⌜ Renamings (now table) map depth list ⌝ }
+    ensures { λ r. ⌜ Followed (now (table .entry)) false map depth list r ⌝ }
+{
+    let mut m = empty();
+    let mut j = 0;
+    let mut at = list;
+    while at != NONE {
+        let cell = read(table, at);
+        let x = variable_of(table, cell.a);
+        m.places[j] = renamed(map, depth, x);
+        j += 1;
+        at = cell.b;
+    }
+    m.len = j;
+    m
 }
 
 // The records of k lambdas, the innermost first, after the body that was written, or the failure.

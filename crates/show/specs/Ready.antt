@@ -18,14 +18,15 @@ use Rattle.invariants.specs.Floor.{Sub, Args, Fine}
 use Rattle.invariants.specs.Grow.{sub-less, args-less}
 use Rattle.invariants.specs.Places.{Low, followed}
 use Rattle.invariants.specs.Rise.{reach, raised-on, Rises, rises}
-use Rattle.promise.specs.ShowKnown.{ShowKnown, ShowAllKnown, HoleKnown, show-body, show-constant, show-variable, show-hole, hole-solution}
+use Rattle.promise.specs.ShowKnown.{ShowKnown, ShowAllKnown, HoleKnown, show-body, show-constant, show-variable, show-arguments, show-hole, hole-solution}
 use Rattle.store.specs.Said.{store, Then, over}
 use Rattle.places.specs.Maps.{mapOf, Whole}
 use Rattle.places.specs.Looking.{Looks}
-use Rattle.places.specs.Lists.{Counts, varsOf}
+use Rattle.places.specs.Lists.{varsOf}
 use Rattle.places.specs.Follow.{Followed}
 use Rattle.narrow.specs.Writing.{Writing}
 use Rattle.rewrite.specs.Renamed.{Renaming}
+use Rattle.rewrite.specs.Renamings.{Renamings}
 use Rattle.rewrite.specs.Levels.{Headed, of-constant}
 use Rattle.rewrite.specs.Parts.{term-read, body-at, args-at, size-args, few-at, counts-at}
 use Rattle.show.specs.Shows.{ShowsT, ShowsL, ShowsH, show-rigid, show-occurrence, hole-expanded}
@@ -116,9 +117,6 @@ module _ {O : ℕ} {m : Map} {ws ss os : List ℕ} {F d r : ℕ} where
     pub to-read-b : 4 * r + 3 < length ws
     to-read-b = to-read (h .on)
 
-    pub to-look : Looks false m d
-    to-look = looks-on (h .on .on)
-
     pub to-push : 4 * O ≤ length os
     to-push = h .on .on .room
 
@@ -183,8 +181,15 @@ module _ {O : ℕ} {m : Map} {ws ss os : List ℕ} {F d r : ℕ} where
       nine : tag ws r ≡ 9
       nine = sym (e .tag-is) ∙ k
 
-      pub to-counts : Counts ws (w .b)
-      to-counts = let t = h .on .table in counts-at (t .R) (t .n) (t .home) ws ss (t .used) F r (t .fine) (h .on .is) w e nine
+      pub to-names : Renamings ws m d (w .b)
+      unfolding variables arguments
+      to-names =
+          let t = h .on .table in
+          record {
+            counts = counts-at (t .R) (t .n) (t .home) ws ss (t .used) F r (t .fine) (h .on .is) w e nine;
+            looks = looks-on (h .on .on);
+            have = rw (e .b-is) (show-arguments (h .on .known) nine);
+          }
 
       own : F ≤ r
       own = let u = h .on .is .up in let o = h .on .table .fine .good r (h .on .is .below) .own in omega arith

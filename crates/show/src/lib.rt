@@ -2,9 +2,9 @@
 use narrow::push_cells;
 use narrow::push_occurrence;
 use places::Map;
-use places::follow;
 use places::in_order;
 use rewrite::renamed;
+use rewrite::renamings;
 use rewrite::then_lambdas;
 use store::Walked;
 use store::push;
@@ -73,7 +73,7 @@ fn show_body(
 {
     let rec = read(table, at);
     if rec.tag == HA {
-        let next = follow(table, map, false, depth, rec.b);
+        let next = renamings(table, map, depth, rec.b);
         let mut below = task;
         below.floor = at + 1;
         return show_hole(table, solutions, output, below, used, Hole(rec.a), next);

@@ -8,7 +8,7 @@ use Rattle.rewrite.specs.Levels.{Headed, head-named}
 use Rattle.laws.specs.Lists.{size}
 use Rattle.places.specs.Filling.{fits-index, fits-next}
 use Rattle.copy.specs.Copies.{Gives}
-use Rattle.copy.specs.Ready.{ReadyT, to-read, to-read-b, to-look, to-push, to-since, to-then, to-counts, to-write, copied-hole, to-name, head-kept, copied-leaf, fall-args, to-args, copied-rigid}
+use Rattle.copy.specs.Ready.{ReadyT, to-read, to-read-b, to-push, to-since, to-then, to-names, to-write, copied-hole, to-name, head-kept, copied-leaf, fall-args, to-args, copied-rigid}
 use Rattle.rewrite.specs.Below.{Below, below-first, below-depth, below-less, below-read, below-next, below-plain, below-then}
 use Rattle.copy.specs.Below.{opens, below-ends}
 use Rattle.copy.specs.Each.{Turn, turn-first, turn-kept, turn-array, turn-cells, turn-ends, turn-read, turn-falls, turn-less, turn-head, room-left, turn-stops, turn-next}
@@ -25,10 +25,10 @@ use Rattle.copy.proofs.copy_term.Reads as copy-term
 use Rattle.copy.proofs.copy_term.Kinds as copy-term-kinds
 use Rattle.copy.proofs.+copy_args+copy_body+copy_term.Lts-copy_term as copy-term-lts
 use Rattle.rewrite.proofs.renamed.Reads as renamed-reads
+use Rattle.rewrite.proofs.renamings.Reads as renamings-reads
 use Rattle.rewrite.proofs.then_lambdas.Reads as then-lambdas-reads
 use Rattle.narrow.proofs.push_cells.Reads as push-cells-reads
 use Rattle.narrow.proofs.push_occurrence.Reads as push-occurrence-reads
-use Rattle.places.proofs.follow.Reads as follow-reads
 use Rattle.store.proofs.push.Reads as push-reads
 use Rattle.store.proofs.then_over.Reads as then-over-reads
 use Rattle.table.proofs.read.Reads as read-reads
@@ -78,7 +78,7 @@ abbrev copy-term-μ-loop : copy-term-lts.MeasureT-loop
 copy-term-μ-loop table n used room map depth at inner₀ term₀ rec₀ inner term rec = term
 
 -- the head's number, where the ways of a constant and a variable meet
-headed : (t : ℕ) (c : copy-body-lts.Joined2 (read-reads.Asked, read-reads.Learnt, follow-reads.Asked, follow-reads.Learnt, push-occurrence-reads.Asked, push-occurrence-reads.Learnt, renamed-reads.Asked, renamed-reads.Learnt, push-reads.Asked, push-reads.Learnt, copy-args-below t, copy-args.Post, then-over-reads.Asked, then-over-reads.Learnt) (copy-body-at t) copy-body.Post)
+headed : (t : ℕ) (c : copy-body-lts.Joined2 (read-reads.Asked, read-reads.Learnt, renamings-reads.Asked, renamings-reads.Learnt, push-occurrence-reads.Asked, push-occurrence-reads.Learnt, renamed-reads.Asked, renamed-reads.Learnt, push-reads.Asked, push-reads.Learnt, copy-args-below t, copy-args.Post, then-over-reads.Asked, then-over-reads.Learnt) (copy-body-at t) copy-body.Post)
     → Headed (mapOf false (c .before .before .before .before .before .before .before .args .map)) (c .before .before .before .before .before .before .before .args .depth) (c .before .before .before .before .read .result) (c .if2 .head)
 headed t c = ⊎-elim (λ w. search head-named) (λ w. search head-kept) (c .if2 .came)
 
@@ -114,8 +114,8 @@ pub +copy-args+copy-body+copy-term-spec : {M : Type 1} → statement M
     (λ t. copy-body-lts.spec (
       read-reads.Asked,
       read-reads.Learnt,
-      follow-reads.Asked,
-      follow-reads.Learnt,
+      renamings-reads.Asked,
+      renamings-reads.Learnt,
       push-occurrence-reads.Asked,
       push-occurrence-reads.Learnt,
       renamed-reads.Asked,
@@ -130,7 +130,7 @@ pub +copy-args+copy-body+copy-term-spec : {M : Type 1} → statement M
     (copy-body-at t)
     copy-body.Post
     (λ c κs. search to-read-b)
-    (λ c κs. (search to-counts, search to-look))
+    (λ c κs. search to-names)
     (λ c κs. search to-write)
     (λ c. search needs)
     (λ c. search copied-hole)

@@ -9,7 +9,7 @@ use Rattle.invariants.specs.Rise.{reach}
 use Rattle.places.specs.Maps.{mapOf}
 use Rattle.rewrite.specs.Levels.{Headed, head-named}
 use Rattle.show.specs.Shows.{Gives, since-none, show-leaf, hole-written}
-use Rattle.show.specs.Ready.{ReadyT, to-read, to-read-b, to-look, to-above, to-push, to-then, to-counts, fall-hole, to-hole, shows-occurrence, to-name, head-kept, fall-args, to-args, shows-rigid, to-solution, to-write, fall-solution, to-term, shows-solution}
+use Rattle.show.specs.Ready.{ReadyT, to-read, to-read-b, to-above, to-push, to-then, to-names, fall-hole, to-hole, shows-occurrence, to-name, head-kept, fall-args, to-args, shows-rigid, to-solution, to-write, fall-solution, to-term, shows-solution}
 use Rattle.rewrite.specs.Below.{Below, below-first, below-depth, below-less, below-read, below-next, below-plain, below-then}
 use Rattle.show.specs.Below.{opens, below-ends}
 use Rattle.show.specs.Each.{Turn, turn-first, turn-kept, turn-array, turn-cells, turn-ends, turn-read, turn-falls, turn-less, turn-head, room-left, turn-stops, turn-next}
@@ -30,8 +30,8 @@ use Rattle.show.proofs.show_term.Kinds as show-term-kinds
 use Rattle.show.proofs.+show_args+show_body+show_hole+show_term.Lts-show_term as show-term-lts
 use Rattle.narrow.proofs.push_cells.Reads as push-cells-reads
 use Rattle.narrow.proofs.push_occurrence.Reads as push-occurrence-reads
-use Rattle.places.proofs.follow.Reads as follow-reads
 use Rattle.rewrite.proofs.renamed.Reads as renamed-reads
+use Rattle.rewrite.proofs.renamings.Reads as renamings-reads
 use Rattle.rewrite.proofs.then_lambdas.Reads as then-lambdas-reads
 use Rattle.store.proofs.push.Reads as push-reads
 use Rattle.store.proofs.solution_of.Reads as solution-of-reads
@@ -93,7 +93,7 @@ abbrev show-term-μ-loop : show-term-lts.MeasureT-loop
 show-term-μ-loop table solutions output task used map depth at inner₀ term₀ rec₀ inner term rec = term
 
 -- the head's number, where the ways of a constant and a variable meet
-headed : (t : ℕ) (c : show-body-lts.Joined2 (read-reads.Asked, read-reads.Learnt, follow-reads.Asked, follow-reads.Learnt, show-hole-below t, show-hole.Post, renamed-reads.Asked, renamed-reads.Learnt, push-reads.Asked, push-reads.Learnt, show-args-below t, show-args.Post, then-over-reads.Asked, then-over-reads.Learnt) (show-body-at t) show-body.Post)
+headed : (t : ℕ) (c : show-body-lts.Joined2 (read-reads.Asked, read-reads.Learnt, renamings-reads.Asked, renamings-reads.Learnt, show-hole-below t, show-hole.Post, renamed-reads.Asked, renamed-reads.Learnt, push-reads.Asked, push-reads.Learnt, show-args-below t, show-args.Post, then-over-reads.Asked, then-over-reads.Learnt) (show-body-at t) show-body.Post)
     → Headed (mapOf false (c .before .before .before .before .before .before .before .before .args .map)) (c .before .before .before .before .before .before .before .before .args .depth) (c .before .before .before .before .read .result) (c .if2 .head)
 headed t c = ⊎-elim (λ w. search head-named) (λ w. search head-kept) (c .if2 .came)
 
@@ -130,8 +130,8 @@ pub +show-args+show-body+show-hole+show-term-spec : {M : Type 1} → statement M
     (λ t. show-body-lts.spec (
       read-reads.Asked,
       read-reads.Learnt,
-      follow-reads.Asked,
-      follow-reads.Learnt,
+      renamings-reads.Asked,
+      renamings-reads.Learnt,
       show-hole-below t,
       show-hole.Post,
       renamed-reads.Asked,
@@ -146,7 +146,7 @@ pub +show-args+show-body+show-hole+show-term-spec : {M : Type 1} → statement M
     (show-body-at t)
     show-body.Post
     (λ c κs. search to-read-b)
-    (λ c κs. (search to-counts, search to-look))
+    (λ c κs. search to-names)
     (λ c. search to-above)
     (λ c κs. (search fall-hole, search to-hole))
     (λ c. search needs)
