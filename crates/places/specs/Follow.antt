@@ -12,11 +12,19 @@ use Rattle.places.specs.declared.Map.{Map}
 use Rattle.table.specs.Reading.{IsRecord}
 use Rattle.rules.specs.Words.{NONE, fieldA, elements}
 use Rattle.rules.specs.Map.{Map as Pairs, placeOf, follow}
+use Rattle.invariants.specs.Floor.{All}
 use Rattle.invariants.specs.Places.{Low, place-low}
 use Rattle.places.specs.Maps.{leads, leads-none, leads-some, mapOf, Whole}
-use Rattle.places.specs.Looking.{Looks, seat}
-use Rattle.places.specs.Lists.{varsOf}
-use Rattle.places.specs.Filling.{fill, Filled, Filling, filling-more}
+use Rattle.places.specs.Looking.{Looks, Within, seat}
+use Rattle.places.specs.Lists.{Counts, varsOf}
+use Rattle.places.specs.Filling.{fill, Filled}
+use Rattle.places.specs.Along.{Along, along-here, along-more}
+
+-- what following asks: each argument is bound inside or has a position
+pub record Following (ws : List ℕ) (b : Bool) (m : Map) (d l : ℕ) : Type 0 where
+  pub counts : Counts ws l
+  pub looks : Looks b m d
+  pub within : All (Within b m d) (varsOf ws l)
 
 -- the map that follows; it has a position for each argument
 pub record Followed (ws : List ℕ) (b : Bool) (m : Map) (d l : ℕ) (r : Map) : Type 0 where
@@ -44,9 +52,13 @@ leads-follow ws m d T j (x ∷ xs) l h = go (placeOf m d (fieldA ws x)) refl (le
         let s : followAt ws m d j x ≡ NONE = rw e in
         leads-none j (followAt ws m d j x) (fill (followAt ws m d) (j + 1) xs) s ∙ rw (e, follow, ih)
 
-pub follow-more : (ws : List ℕ) (b : Bool) (m : Map) (d l : ℕ) (places : List ℕ) (j at : ℕ) (w : Record) (x v : ℕ) → Filling (followAt ws (mapOf b m) d) ws l places j at → (at ≡ NONE → ⊥)
-    → IsRecord ws at w → fieldA ws (w .a) ≡ x → seat (placeOf (mapOf b m) d x) ≡ v → Filling (followAt ws (mapOf b m) d) ws l (set places j v) (j + 1) (w .b)
-follow-more ws b m d l places j at w x v h n e p q = filling-more (followAt ws (mapOf b m) d) ws l places j at h n w e v (rw p q)
+pub follow-here : (ws : List ℕ) (b : Bool) (m : Map) (d l : ℕ) (places : List ℕ) (j at : ℕ) (w : Record) (x : ℕ) → Along (Within b m d) (followAt ws (mapOf b m) d) ws l places j at
+    → (at ≡ NONE → ⊥) → IsRecord ws at w → fieldA ws (w .a) ≡ x → Within b m d x
+follow-here ws b m d l places j at w x h n e p = along-here (Within b m d) (followAt ws (mapOf b m) d) ws l places j at h n w e x p
+
+pub follow-more : (P : ℕ → Type 0) (ws : List ℕ) (b : Bool) (m : Map) (d l : ℕ) (places : List ℕ) (j at : ℕ) (w : Record) (x v : ℕ) → Along P (followAt ws (mapOf b m) d) ws l places j at
+    → (at ≡ NONE → ⊥) → IsRecord ws at w → fieldA ws (w .a) ≡ x → seat (placeOf (mapOf b m) d x) ≡ v → Along P (followAt ws (mapOf b m) d) ws l (set places j v) (j + 1) (w .b)
+follow-more P ws b m d l places j at w x v h n e p q = along-more P (followAt ws (mapOf b m) d) ws l places j at h n w e v (rw p q)
 
 pub follows : (ws : List ℕ) (b : Bool) (m : Map) (d l : ℕ) (r : Map) → Looks b m d → Filled (followAt ws (mapOf b m) d) ws l r → Followed ws b m d l r
 unfolding mapOf

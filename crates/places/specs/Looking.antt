@@ -141,6 +141,16 @@ pub record Looks (b : Bool) (m : Map) (d : ℕ) : Type 0 where
 pub place-fits : (b : Bool) (m : Map) (d x w : ℕ) (s : Found) → Looks b m d → lookup (mapOf b m) x ≡ s → s ≡ At w → Fits w32 (w + d)
 place-fits b m d x w s h e f = let k = h .low .low x w (e ∙ f) in let g = h .fits in record { fits = omega arith }
 
+-- below a solved hole, under d lambdas, a variable is bound inside or has a position
+pub record Within (b : Bool) (m : Map) (d v : ℕ) : Type 0 where
+  pub within : b ≡ false → v < d + m .len
+
+pub within-out : (b : Bool) (m : Map) (d v : ℕ) → Within b m d v → d ≤ v → Within b m 0 (v - d)
+within-out b m d v h le = record { within = λ e. let k = h .within e in omega arith }
+
+pub within-at : (b : Bool) (m : Map) (v : ℕ) → Within b m 0 v → b ≡ false → v < m .len
+within-at b m v h e = let k = h .within e in omega arith
+
 -- a place as a number, NONE for none
 unfoldable pub seat : Found → ℕ
 seat (At w) = w

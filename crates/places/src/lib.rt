@@ -11,10 +11,10 @@ ghost use lib.Dec.{eqb};
 ghost use Rattle.rules.specs.Words.{fieldA};
 ghost use Rattle.rules.specs.Map.{lookup, placeOf};
 ghost use Rattle.places.specs.Maps.{mapOf, Whole, noPlace};
-ghost use Rattle.places.specs.Looking.{Looks, seat};
+ghost use Rattle.places.specs.Looking.{Looks, Within, seat};
 ghost use Rattle.places.specs.Lists.{Counts};
 ghost use Rattle.places.specs.Arguments.{Arguments, Ordered};
-ghost use Rattle.places.specs.Follow.{Followed};
+ghost use Rattle.places.specs.Follow.{Following, Followed};
 ghost use Rattle.places.specs.Agree.{Comparing, Agrees, agreed as agreedOf};
 
 // The partial map: so many of 16 places, one for each position of an argument list; NONE is no place. It is read from places to
@@ -52,12 +52,9 @@ fn position_of(map: Map, place: u32) -> Found
 
 // Which place this position has.
 fn place_at(map: Map, position: usize) -> Found
-    requires { ⌜ Whole map ⌝ }
+    requires { ⌜ Whole map × (position < map .len) ⌝ }
     ensures { λ r. ⌜ lookup (mapOf false map) position ≡ r ⌝ }
 {
-    if position >= map.len {
-        return Found::Nowhere;
-    }
     let w = map.places[position];
     if w == NONE {
         return Found::Nowhere;
@@ -67,7 +64,7 @@ fn place_at(map: Map, position: usize) -> Found
 
 // Where the map leads a variable: from places to positions on the side of a pair, `above` all solved holes, else from positions to places.
 fn look(map: Map, above: bool, v: Variable) -> Found
-    requires { ⌜ Whole map ⌝ }
+    requires { ⌜ Whole map × Within above map 0 (v .0) ⌝ }
     ensures { λ r. ⌜ lookup (mapOf above map) (v .0) ≡ r ⌝ }
 {
     if above {
@@ -78,7 +75,7 @@ fn look(map: Map, above: bool, v: Variable) -> Found
 
 // The same under `depth` lambdas: variables bound inside stay.
 pub fn place_of(map: Map, above: bool, depth: u32, v: Variable) -> Found
-    requires { ⌜ Looks above map depth ⌝ }
+    requires { ⌜ Looks above map depth × Within above map depth (v .0) ⌝ }
     ensures { λ r. ⌜ placeOf (mapOf above map) depth (v .0) ≡ r ⌝ }
 {
     if v.0 < depth {
@@ -92,7 +89,7 @@ pub fn place_of(map: Map, above: bool, depth: u32, v: Variable) -> Found
 
 // The place of a variable, or NONE.
 fn place_or_none(map: Map, above: bool, depth: u32, v: Variable) -> u32
-    requires { ⌜ Looks above map depth ⌝ }
+    requires { ⌜ Looks above map depth × Within above map depth (v .0) ⌝ }
     ensures { λ r. ⌜ seat (placeOf (mapOf above map) depth (v .0)) ≡ r ⌝ }
 {
     let Found::At(to) = place_of(map, above, depth, v) else {
@@ -148,7 +145,7 @@ pub fn in_order(table: &[u32], context: u32) -> Map
 
 // The map that follows a hole's arguments: from each position whose argument has a place, to that place.
 pub fn follow(table: &[u32], map: Map, above: bool, depth: u32, list: u32) -> Map
-    requires { ⌜ Counts (now table) list × Looks above map depth ⌝ }
+    requires { ⌜ Following (now table) above map depth list ⌝ }
     ensures { λ r. ⌜ Followed (now (table .entry)) above map depth list r ⌝ }
 {
     let mut m = empty();

@@ -1,7 +1,7 @@
 -- What is known of a term that is copied: it reads as a tree, and every free variable of the tree has a place.
 use Prim.Native.Nat.{ℕ, _+_}
 use mathlib.Core.Path.{_≡_}
-use mathlib.Core.List.{List, [], _∷_}
+use mathlib.Core.List.{List, _∷_}
 use mathlib.Core.Option.{some}
 use Rattle.rules.specs.declared.Found.the-variants.{At}
 use Rattle.rules.specs.Words.{tag, fieldA, fieldB, NONE, LA, CA, VA, HA, variables}
@@ -9,14 +9,14 @@ use Rattle.rules.specs.Store.{Store, goes}
 use Rattle.rules.specs.Map.{Map, placeOf}
 use Rattle.rules.specs.Rewrite.{copy}
 use Rattle.invariants.specs.Floor.{All}
-use Rattle.trees.specs.Tree.{Tree, cons, lift, ren, AllL}
+use Rattle.trees.specs.Tree.{Tree, cons, lift, ren}
 use Rattle.promise.specs.Reading.{Listed, one, many, Reads, r-cons}
 use Rattle.promise.specs.Outcomes.{Fits, went}
 use Rattle.promise.specs.Writing.{Wrote}
 use Rattle.promise.specs.Maps.{option-at, place}
 use Rattle.promise.specs.Rewriting.{Placed, placed-lam}
 use Rattle.promise.specs.Copying.{copy-ends}
-use Rattle.promise.specs.Parts.{Applied, applied-later, lambda-body, constant-arguments, variable-arguments, hole-occurrence, listed-parts}
+use Rattle.promise.specs.Parts.{Applied, applied-later, lambda-body, constant-arguments, variable-arguments, occurrence-each, listed-parts}
 
 -- record r, under d lambdas
 pub record CopyKnown (m : Map) (R : ℕ) (s : Store) (d r : ℕ) : Type 0 where
@@ -37,10 +37,6 @@ pub record CopyAllKnown (m : Map) (R : ℕ) (s : Store) (d l : ℕ) : Type 0 whe
 -- the variable v has a place
 abbrev pub HasPlace : Map → ℕ → ℕ → Type 0
 HasPlace m d v = (w : ℕ) × (placeOf m d v ≡ At w)
-
-pub all-placed : (m : Map) (d : ℕ) (f : ℕ → ℕ) (vs : List ℕ) → AllL (λ j. place m d j ≡ some (f j)) vs → All (HasPlace m d) vs
-all-placed m d f [] h = tt
-all-placed m d f (v ∷ vs) h = ((f v, option-at (placeOf m d v) _ (h .0)), all-placed m d f vs (h .1))
 
 module _ {m : Map} {R : ℕ} {s : Store} {d r : ℕ} (k : CopyKnown m R s d r) where
   pub copy-body : tag (s .words) r ≡ LA → CopyKnown m R s (d + 1) (fieldA (s .words) r)
@@ -65,7 +61,7 @@ module _ {m : Map} {R : ℕ} {s : Store} {d r : ℕ} (k : CopyKnown m R s d r) w
 
   -- the arguments of an occurrence
   pub copy-arguments : tag (s .words) r ≡ HA → All (HasPlace m d) (variables (s .words) r)
-  copy-arguments e = all-placed m d (k .to) (variables (s .words) r) (rw (hole-occurrence e (k .reads)) at (k .placed))
+  copy-arguments e = occurrence-each (λ j p. (k .to j, option-at (placeOf m d j) _ p)) e (k .reads) (k .placed)
 
 module _ {m : Map} {R : ℕ} {s : Store} {d l : ℕ} (ne : l ≡ NONE → ⊥) (k : CopyAllKnown m R s d l) where
   parts : CopyKnown m R s d (fieldA (s .words) l) × CopyAllKnown m R s d (fieldB (s .words) l)

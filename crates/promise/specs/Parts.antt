@@ -1,11 +1,12 @@
 -- The parts of a term that reads as a tree, by its tag.
 use Prim.Native.Nat.{ℕ, _≤_}
 use mathlib.Core.Path.{_≡_, refl, sym, ap, ap₂, _∙_}
-use mathlib.Core.List.{List, _∷_}
+use mathlib.Core.List.{List, [], _∷_}
 use native.Mathlib.Omega.{arith}
 use lib.ListN.{length}
 use Rattle.rules.specs.Words.{tag, fieldA, fieldB, NONE, LA, CA, VA, HA, elements, variables}
-use Rattle.trees.specs.Tree.{Ty, Tree, lam, con, var, hol}
+use Rattle.invariants.specs.Floor.{All as Each}
+use Rattle.trees.specs.Tree.{Ty, Tree, lam, con, var, hol, AllL, All}
 use Rattle.promise.specs.Reading.{Listed, l-none, l-cell, one, many, Reads, r-lam, r-con, r-var, r-hol, ReadsTys, ty-nil, ty-cons, HoleAt, Same, same-refl, lower, listed-later, reads-later, listed-elements, listed-variables}
 
 -- an argument list that reads as a tree
@@ -43,6 +44,14 @@ module _ {ws : List ℕ} {n r : ℕ} where
   hole-occurrence e (r-con h k a b l d) = absurd (omega arith)
   hole-occurrence e (r-var h k a b l d) = absurd (omega arith)
   hole-occurrence e (r-hol h k a b l d) = ap₂ hol (sym a) (sym (listed-variables r b l d))
+
+  -- what holds of the free variables holds of each argument
+  pub occurrence-each : {t : Tree} {P Q : ℕ → Type 0} → ((j : ℕ) → P j → Q j) → tag ws r ≡ HA → Reads ws n (one r) t → All P t → Each Q (variables ws r)
+  occurrence-each {P = P} {Q} f e d h = go (variables ws r) (rw (hole-occurrence e d) at h)
+    where
+      go : (vs : List ℕ) → AllL P vs → Each Q vs
+      go [] a = tt
+      go (v ∷ vs) a = (f v (a .0), go vs (a .1))
 
 -- the first element of a list, and the rest
 pub listed-parts : {ws : List ℕ} {n l : ℕ} {xs : List ℕ} → (l ≡ NONE → ⊥) → Listed ws n l xs → (ys : List ℕ) × (xs ≡ fieldA ws l ∷ ys) × Listed ws n (fieldB ws l) ys

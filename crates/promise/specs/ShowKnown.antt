@@ -24,8 +24,8 @@ use Rattle.promise.specs.Following.{follow-after}
 use Rattle.promise.specs.Rewriting.{Placed, placed-lam}
 use Rattle.promise.specs.State.{Holds, solved-some, declared-low}
 use Rattle.promise.specs.Showing.{length-from, nth-from}
-use Rattle.promise.specs.Parts.{Applied, lambda-body, constant-arguments, variable-arguments, hole-occurrence, listed-parts, context-length}
-use Rattle.promise.specs.CopyKnown.{HasPlace, all-placed}
+use Rattle.promise.specs.Parts.{Applied, lambda-body, constant-arguments, variable-arguments, hole-occurrence, occurrence-each, listed-parts, context-length}
+use Rattle.promise.specs.CopyKnown.{HasPlace}
 
 -- the table says its holes, and their typed solutions
 pub record Says (R : ℕ) (s : Store) : Type 0 where
@@ -106,17 +106,15 @@ module _ {R : ℕ} {s : Store} {m : Map} {d r : ℕ} (k : ShowKnown R s m d r) w
       )
 
   -- the arguments of an occurrence
-  placed-arguments : tag (s .words) r ≡ HA → AllL (λ j. place m d j ≡ some (k .to j)) (variables (s .words) r)
-  placed-arguments e = rw (hole-occurrence e (k .reads)) at (k .placed)
-
   pub show-arguments : tag (s .words) r ≡ HA → All (HasPlace m d) (variables (s .words) r)
-  show-arguments e = all-placed m d (k .to) (variables (s .words) r) (placed-arguments e)
+  show-arguments e = occurrence-each (λ j p. (k .to j, option-at (placeOf m d j) _ p)) e (k .reads) (k .placed)
 
   -- the hole of an occurrence, under the map that follows its arguments
   pub show-hole : tag (s .words) r ≡ HA → HoleKnown R s (follow m d 0 (variables (s .words) r)) (fieldA (s .words) r)
   show-hole e =
       let vs = variables (s .words) r in
       let o : Declared (k .says .sig) (fieldA (s .words) r) vs = (rw (hole-occurrence e (k .reads)) at (k .inside)) in
+      let p : AllL (λ j. place m d j ≡ some (k .to j)) vs = (rw (hole-occurrence e (k .reads)) at (k .placed)) in
       let n = o .3 in
       record {
         says = k .says;
@@ -124,7 +122,7 @@ module _ {R : ℕ} {s : Store} {m : Map} {d r : ℕ} (k : ShowKnown R s m d r) w
         base = o .1;
         declared = o .2;
         to = λ j. k .to (nth vs j);
-        placed = λ j l. follow-after m d vs j (omega arith) ∙ nth-All (λ i. place m d i ≡ some (k .to i)) vs (placed-arguments e) j (omega arith);
+        placed = λ j l. follow-after m d vs j (omega arith) ∙ nth-All (λ i. place m d i ≡ some (k .to i)) vs p j (omega arith);
       }
 
 module _ {R : ℕ} {s : Store} {m : Map} {d l : ℕ} (ne : l ≡ NONE → ⊥) (k : ShowAllKnown R s m d l) where

@@ -3,7 +3,8 @@ use Prim.Native.Nat.{ℕ}
 use mathlib.Core.Path.{_≡_, refl, sym, _∙_}
 use mathlib.Core.List.{List}
 use mathlib.Core.Option.{Option, none, some}
-use lib.ListN.{getD}
+use native.Mathlib.Omega.{arith}
+use lib.ListN.{length, getD}
 use Rattle.rules.specs.Words.{tag, fieldA, NONE, HA, variables}
 use Rattle.rules.specs.Store.{Store, goes}
 use Rattle.rules.specs.Map.{toVariables}
@@ -11,8 +12,9 @@ use Rattle.rules.specs.Rewrite.{copy}
 use Rattle.trees.specs.Tree.{Ty, base, Tree, hol, ren, nth, Sig, Kind, at, HasTy, t-hol}
 use Rattle.trees.specs.Free.{All-map}
 use Rattle.trees.specs.Moves.{Solutions, SolTyped}
-use Rattle.trees.specs.Typing.{vars-embed, ren-typed, typed-holes}
+use Rattle.trees.specs.Typing.{vars-embed, ren-typed, typed-scoped, typed-holes}
 use Rattle.trees.specs.Leads.{declared-once}
+use Rattle.trees.specs.Scopes.{sol-scoped}
 use Rattle.promise.specs.Reading.{one, Reads}
 use Rattle.promise.specs.Outcomes.{went}
 use Rattle.promise.specs.Writing.{Wrote}
@@ -37,8 +39,18 @@ pub record SideKnown (R : ℕ) (s : Store) (r : ℕ) : Type 0 where
   pub typed : HasTy constants sig context tree kind
 
 module _ {R : ℕ} {s : Store} {r : ℕ} (k : SideKnown R s r) where
-  pub side-walks : WalkKnown R s r
-  side-walks = record { sig = k .sig; sols = k .sols; holds = k .holds; tree = k .tree; reads = k .reads; inside = typed-holes (k .constants) (k .sig) (k .typed) }
+  pub side-walks : WalkKnown R s (length (k .context)) 0 r
+  side-walks =
+      record {
+        sig = k .sig;
+        sols = k .sols;
+        holds = k .holds;
+        solved = sol-scoped (k .constants) (k .sig) (k .sols) (k .solved);
+        tree = k .tree;
+        reads = k .reads;
+        inside = typed-holes (k .constants) (k .sig) (k .typed);
+        scoped = All-map (λ j h. omega arith) (k .tree) (typed-scoped (k .constants) (k .sig) (k .typed));
+      }
 
   -- an occurrence of a hole whose solution is record t
   module _ (e : tag (s .words) r ≡ HA) (t : ℕ) (q : getD (s .solutions) (fieldA (s .words) r) NONE ≡ t) (n : t ≡ NONE → ⊥) where

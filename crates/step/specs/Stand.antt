@@ -109,10 +109,10 @@ module _ (R n : ℕ) (ws ss : List ℕ) (used : ℕ) (q : List ℕ) (cap : ℕ) 
 
     -- 5
     pub stood-left : k ≡ LeftHole → Assigning R n ws ss used l r
-    stood-left e = record { home = h .home; fine = fine; left = left; occ = known LeftHole e; right = right; known = side-walks (known-right (h .known)) }
+    stood-left e = record { home = h .home; fine = fine; left = left; occ = known LeftHole e; right = right; scope = _; known = side-walks (known-right (h .known)) }
 
     pub stood-right : k ≡ RightHole → Assigning R n ws ss used r l
-    stood-right e = record { home = h .home; fine = fine; left = right; occ = known RightHole e; right = left; known = side-walks (known-left (h .known)) }
+    stood-right e = record { home = h .home; fine = fine; left = right; occ = known RightHole e; right = left; scope = _; known = side-walks (known-left (h .known)) }
 
     module _ (ws₁ ss₁ : List ℕ) (w : Walked) (x : Step) (f : ThenFinishes g w x) where
       pub met-left : k ≡ LeftHole → Does² n (assign R l r) ws ss used ws₁ ss₁ w → Met ws₁ ss₁ q x

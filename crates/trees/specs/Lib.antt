@@ -17,6 +17,7 @@ pub mod Leads
 pub mod Read
 pub mod Stuck
 pub mod Walk
+pub mod Scopes
 pub mod Expand
 pub mod Demand
 pub mod Theorems

@@ -54,7 +54,7 @@ vars-nth v-nil v A e = absurd (Option·none-ne-some _ e)
 vars-nth {G} (v-cons {x} {A = B} a h) zero A e = a ∙ e
 vars-nth (v-cons a h) (suc v) A e = vars-nth h v A e
 
-vars-below : {G : List Ty} {xs : List ℕ} {C : List Ty} → Vars G xs C → AllL (λ j. j < length G) xs
+pub vars-below : {G : List Ty} {xs : List ℕ} {C : List Ty} → Vars G xs C → AllL (λ j. j < length G) xs
 vars-below v-nil = tt
 vars-below {G} (v-cons {x} {A = A} e h) = (At-lt G x A e, vars-below h)
 

@@ -1,6 +1,6 @@
 -- Step 5: the map that the walk starts with, and the solution recorded.
 use Prim.Native.Nat.{ℕ, _+_, _*_, _<_}
-use mathlib.Core.Path.{_≡_, sym}
+use mathlib.Core.Path.{_≡_, refl, sym}
 use mathlib.Core.List.{List}
 use mathlib.Core.Bool.{true}
 use native.Mathlib.Omega.{arith}
@@ -34,7 +34,8 @@ pub record Assigning (R n : ℕ) (ws ss : List ℕ) (used l r : ℕ) : Type 0 wh
   pub left : Sub ws home 0 used l
   pub occ : tag ws l ≡ 9
   pub right : Sub ws home 0 used r
-  pub known : WalkKnown R (store ws ss used) r
+  pub scope : ℕ
+  pub known : WalkKnown R (store ws ss used) scope 0 r
 
 -- what follows the walk
 abbrev pub recording : ℕ → Store × ℕ → Out ℕ
@@ -82,6 +83,8 @@ module _ {R n : ℕ} {ws ss : List ℕ} {used l r : ℕ} where
             home = h .home;
             is = h .right;
             on = record { fine = h .fine; hole = omega arith; whole = p .whole; top = 16; low = rw placed (start-low ws l (rule .few (omega arith) (omega arith))); fits = omega arith };
+            scope = h .scope;
+            within = λ z. absurd (z refl);
             known = h .known;
           }
 

@@ -18,22 +18,22 @@ use Rattle.rules.specs.Store.{push}
 use Rattle.laws.specs.Lists.{size}
 use Rattle.invariants.specs.Rise.{reach}
 use Rattle.store.specs.Said.{Does, Then, over, under}
-use Rattle.places.specs.Looking.{Looks}
+use Rattle.places.specs.Looking.{Looks, Within}
 use Rattle.rewrite.specs.Lambdas.{Under, under-failed}
 use Rattle.rewrite.specs.Levels.{Headed}
 use Rattle.rewrite.specs.Below.{Opens, Below, below-gives}
 use Rattle.walk.specs.Head.{headOf}
 use Rattle.walk.specs.Walks.{mapAt, Gives, WalksT, WalksL, WalksH, walk-lambda, walk-leaf, walk-escape}
-use Rattle.walk.specs.Ready.{ReadyT, ReadyL, ReadyH, to-read, look, body-less, to-body, to-hole, walked-hole, headed, args-size, to-args, walked-rigid}
+use Rattle.walk.specs.Ready.{ReadyT, ReadyL, ReadyH, to-read, look, in-scope, body-less, to-body, to-hole, walked-hole, headed, args-size, to-args, walked-rigid}
 use Rattle.walk.specs.First.{first-read, first-lower, first-ready, only-walked}
 
 -- what the loop that takes the lambdas of r₀ off keeps
-abbrev pub Within : (R n u : ℕ) (m : Map) (ws ss : List ℕ) (used F d₀ r₀ d r : ℕ) (w : Record) → Type 0
-Within R n u m ws ss used F = Below (ReadyT R n u m ws ss used F) (λ s. Gives R u m ws s used F) R ws ws
+abbrev pub Down : (R n u : ℕ) (m : Map) (ws ss : List ℕ) (used F d₀ r₀ d r : ℕ) (w : Record) → Type 0
+Down R n u m ws ss used F = Below (ReadyT R n u m ws ss used F) (λ s. Gives R u m ws s used F) R ws ws
 
 -- a rigid head there, written as v
 pub record Rigid (R n u : ℕ) (m : Map) (ws ss : List ℕ) (used F d₀ r₀ d r : ℕ) (w : Record) (v : ℕ) : Type 0 where
-  pub below : Within R n u m ws ss used F d₀ r₀ d r w
+  pub below : Down R n u m ws ss used F d₀ r₀ d r w
   pub head : Headed (mapAt F m) d w v
 
 module _ {R n u : ℕ} {m : Map} {ws ss : List ℕ} {used F : ℕ} where
@@ -48,12 +48,15 @@ module _ {R n u : ℕ} {m : Map} {ws ss : List ℕ} {used F : ℕ} where
         over = λ d r w e t k s o g. walk-lambda R n u m ws s used F d r w e o t (omega arith) g;
       }
 
-  module _ {d₀ r₀ d r : ℕ} {w : Record} (h : Within R n u m ws ss used F d₀ r₀ d r w) where
+  module _ {d₀ r₀ d r : ℕ} {w : Record} (h : Down R n u m ws ss used F d₀ r₀ d r w) where
     ends : (ws₁ ss₁ : List ℕ) (x : Walked) (ws₂ : List ℕ) (y : Walked) → WalksT R n u m ws ss used F d r ws₁ ss₁ x → Under n R (d - d₀) ws₁ x ws₂ y → WalksT R n u m ws ss used F d₀ r₀ ws₂ ss₁ y
     ends ws₁ ss₁ x ws₂ y p q = record { run = below-gives h n ss ss₁ ws₁ x ws₂ y (p .run) q; grown = q .grown }
 
     pub below-look : Looks (eqb F 0) m d
     below-look = look (h .on)
+
+    pub below-within : w .tag ≡ 8 → Within (eqb F 0) m d (w .a)
+    below-within = in-scope w (h .is) (h .on)
 
     pub below-room : 4 * R ≤ length ws
     below-room = h .on .on .fine .room

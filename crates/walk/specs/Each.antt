@@ -147,7 +147,9 @@ module _ (R n u : ℕ) (m : Map) (ws₀ ss₀ : List ℕ) (used₀ F d l₀ : �
                   is = args-kept _ _ _ _ _ _ _ _ _ (r .on .fine) (g .ext) (parts .1);
                   few = omega arith;
                   on = record { fine = g .fine; hole = omega arith; whole = r .on .whole; top = r .on .top; low = r .on .low; fits = omega arith };
-                  known = rw (e .b-is) (walk-rest ne (r .known) _ u (mapAt F m) d (rw (e .a-is) at gives));
+                  scope = r .scope;
+                  within = r .within;
+                  known = rw (e .b-is) (walk-rest ne (r .known) _ u (mapAt F m) (rw (e .a-is) at gives));
                 }
 
             pub turn-next : length ws₁ ≡ length ws → length ss₁ ≡ length ss → Turn R n u m ws₀ ss₀ used₀ F d l₀ ws₁ ss₁ (set noted k y) (k + 1) u₁ (w .b)

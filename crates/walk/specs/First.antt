@@ -43,7 +43,7 @@ module _ {R n u : ℕ} {m : Map} {ws ss : List ℕ} {used F d l : ℕ} (h : Read
     pub first-ready : ReadyT R n u m ws ss used F d (w .a)
     first-ready =
         let a = first-lower .0 in
-        record { home = h .home; is = first-parts .0; on = on-part d (suc (w .a)) (h .on) (omega arith); known = rw (e .a-is) (walk-first ne (h .known)) }
+        record { home = h .home; is = first-parts .0; on = on-part d (suc (w .a)) (h .on) (omega arith); scope = h .scope; within = h .within; known = rw (e .a-is) (walk-first ne (h .known)) }
 
     pub only-walked : (ws₁ ss₁ : List ℕ) (x : Walked) (ws₂ : List ℕ) (y : Walked) → w .b ≡ NONE
         → WalksT R n u m ws ss used F d (w .a) ws₁ ss₁ x → Then n (under R CE NONE) ws₁ x ws₂ y → WalksL R n u m ws ss used F d l ws₂ ss₁ y

@@ -2,11 +2,12 @@
 use Prim.Native.Nat.{ℕ, suc, _+_, _*_, _<_, _≤_}
 use mathlib.Core.Path.{_≡_, sym, _∙_}
 use mathlib.Core.List.{List}
+use mathlib.Core.Bool.{Bool}
 use native.Mathlib.Omega.{arith}
 use native.Mathlib.Decide.{ℕ-discrete}
 use lib.ListN.{length, getD, length-map}
 use lib.Dec.{eqb}
-use borrow.Author.Tests.{ne-eqb}
+use borrow.Author.Tests.{ne-eqb, eqb-false}
 use Rattle.rules.specs.declared.Found.{Found}
 use Rattle.rules.specs.declared.Found.the-variants.{At, Nowhere}
 use Rattle.rules.specs.declared.Failure.the-variants.{Escape}
@@ -19,16 +20,16 @@ use Rattle.rules.specs.Words.{NONE, tag, fieldA, fieldB, elements, arguments, v
 use Rattle.rules.specs.Store.{push}
 use Rattle.laws.specs.Lists.{size}
 use Rattle.invariants.specs.Floor.{Sub, Args, Fine}
-use Rattle.invariants.specs.Grow.{sub-less, args-less}
+use Rattle.invariants.specs.Grow.{all-map, sub-less, args-less}
 use Rattle.invariants.specs.Places.{Low, followed}
 use Rattle.invariants.specs.Rise.{reach, raised, raised-first, raised-on, Rises, rises}
 use Rattle.invariants.specs.Keep.{highest}
-use Rattle.promise.specs.WalkKnown.{WalkKnown, WalkAllKnown, walk-body, walk-constant, walk-variable, walk-arity, walk-solution}
+use Rattle.promise.specs.WalkKnown.{WalkKnown, WalkAllKnown, walk-body, walk-constant, walk-variable, walk-arguments, walk-arity, walk-solution}
 use Rattle.store.specs.Said.{store, Does, Then, over}
 use Rattle.places.specs.Maps.{Whole}
-use Rattle.places.specs.Looking.{Looks}
-use Rattle.places.specs.Lists.{Counts, varsOf}
-use Rattle.places.specs.Follow.{Followed}
+use Rattle.places.specs.Looking.{Looks, Within}
+use Rattle.places.specs.Lists.{varsOf}
+use Rattle.places.specs.Follow.{Following, Followed}
 use Rattle.narrow.specs.Narrowing.{Narrowing}
 use Rattle.rewrite.specs.Levels.{Headed, of-constant, of-variable}
 use Rattle.rewrite.specs.Parts.{term-read, body-at, args-at, size-args, few-at, counts-at, hole-held, narrows}
@@ -48,12 +49,15 @@ pub record ReadyT (R n u : ℕ) (m : Map) (ws ss : List ℕ) (used F d r : ℕ) 
   pub home : ℕ → ℕ
   pub is : Sub ws home F used r
   pub on : On R n u m home ws ss used F d (suc r)
-  pub known : WalkKnown R (store ws ss used) r
+  pub scope : ℕ
+  pub within : (F ≡ 0 → ⊥) → scope ≤ m .len
+  pub known : WalkKnown R (store ws ss used) scope d r
 
 -- a rigid head without arguments
 pub record ReadyF (R n : ℕ) (m : Map) (ws : List ℕ) (used F d r : ℕ) : Type 0 where
   pub reads : 4 * r + 3 < length ws
   pub looks : Looks (eqb F 0) m d
+  pub within : tag ws r ≡ 8 → Within (eqb F 0) m d (fieldA ws r)
   pub room : 4 * R ≤ length ws
   pub since : n ≤ used
   pub rigid : (7 ≤ tag ws r) × (tag ws r ≤ 8)
@@ -64,7 +68,9 @@ pub record ReadyL (R n u : ℕ) (m : Map) (ws ss : List ℕ) (used F d l : ℕ) 
   pub is : Args ws home F used l
   pub few : length (elements ws l) ≤ 16
   pub on : On R n u m home ws ss used F d (size l)
-  pub known : WalkAllKnown R (store ws ss used) l
+  pub scope : ℕ
+  pub within : (F ≡ 0 → ⊥) → scope ≤ m .len
+  pub known : WalkAllKnown R (store ws ss used) scope d l
 
 pub record ReadyH (R n u : ℕ) (m : Map) (ws ss : List ℕ) (used F d r : ℕ) : Type 0 where
   pub on : ReadyT R n u m ws ss used F d r
@@ -80,12 +86,21 @@ fall-argument R F r t z = omega arith
 pub fall-occurrence : (R F r t : ℕ) → 2 * reach R F (suc r) + 1 ≡ t → 2 * reach R F r < t
 fall-occurrence R F r t z = omega arith
 
+-- the map that follows an occurrence's arguments has a position for each
+as-many : {ws : List ℕ} {b : Bool} {m : Map} {d r : ℕ} {w : Record} {next : Map} → IsRecord ws r w → Followed ws b m d (w .b) next → length (variables ws r) ≡ next .len
+unfolding variables arguments
+as-many {ws} {r = r} {next = next} e g = let k : length (elements ws (fieldB ws r)) ≡ next .len = rw (← e .b-is) (sym (g .len)) in simp length-map k
+
 module _ {R n u : ℕ} {m : Map} {ws ss : List ℕ} {used F d r : ℕ} where
   pub to-read : ReadyT R n u m ws ss used F d r → 4 * r + 3 < length ws
   to-read h = term-read R n (h .home) ws ss used F r (h .on .fine) (h .is)
 
   pub look : ReadyT R n u m ws ss used F d r → Looks (eqb F 0) m d
   look h = let f = h .on .fits in record { top = h .on .top; whole = h .on .whole; low = h .on .low; fits = omega arith }
+
+  -- a variable in scope is bound inside or, below a solved hole, has a position
+  inside : (h : ReadyT R n u m ws ss used F d r) (v : ℕ) → v < d + h .scope → Within (eqb F 0) m d v
+  inside h v lt = record { within = λ z. let k = h .within (eqb-false F 0 z) in omega arith }
 
   -- the body of a lambda
   body : (w : Record) → IsRecord ws r w → w .tag ≡ 6 → (h : ReadyT R n u m ws ss used F d r) → Sub ws (h .home) F r (w .a)
@@ -103,10 +118,15 @@ module _ {R n u : ℕ} {m : Map} {ws ss : List ℕ} {used F d r : ℕ} where
         home = h .home;
         is = sub-less ws (h .home) F F r used (w .a) b (omega arith) (omega arith);
         on = on-part (d + 1) (suc (w .a)) (h .on) (omega arith);
+        scope = h .scope;
+        within = h .within;
         known = rw (e .a-is) (walk-body (h .known) (sym (e .tag-is) ∙ k));
       }
 
   -- a rigid head
+  pub in-scope : (w : Record) → IsRecord ws r w → ReadyT R n u m ws ss used F d r → w .tag ≡ 8 → Within (eqb F 0) m d (w .a)
+  in-scope w e h t = rw (e .a-is) (inside h (fieldA ws r) (walk-variable (h .known) (sym (e .tag-is) ∙ t) .0))
+
   pub headed : (w : Record) (s : Found) (v : ℕ) → IsRecord ws r w → (w .tag ≡ 6 → ⊥) → (w .tag ≡ 9 → ⊥) → ReadyT R n u m ws ss used F d r → headOf (mapAt F m) d w ≡ s → s ≡ At v → Headed (mapAt F m) d w v
   headed w s v e a b h p q = let lo = h .is .term .low in let hi = h .is .term .high in let z = e .tag-is in head-at _ _ _ s p v (omega arith) (omega arith) q
 
@@ -117,12 +137,12 @@ module _ {R n u : ℕ} {m : Map} {ws ss : List ℕ} {used F d r : ℕ} where
     pub args-size : size (w .b) ≤ r
     args-size = size-args R n (h .home) ws ss used F r (h .on .fine) (h .is) w e plain
 
-    knows : WalkAllKnown R (store ws ss used) (w .b)
+    knows : WalkAllKnown R (store ws ss used) (h .scope) d (w .b)
     knows = rw (e .b-is) (go g)
       where
-        go : Headed (mapAt F m) d w v → WalkAllKnown R (store ws ss used) (fieldB ws r)
+        go : Headed (mapAt F m) d w v → WalkAllKnown R (store ws ss used) (h .scope) d (fieldB ws r)
         go (of-constant t _) = walk-constant (h .known) (sym (e .tag-is) ∙ t)
-        go (of-variable t _) = walk-variable (h .known) (sym (e .tag-is) ∙ t)
+        go (of-variable t _) = walk-variable (h .known) (sym (e .tag-is) ∙ t) .1
 
     pub to-args : ReadyL R n u m ws ss used F d (w .b)
     to-args =
@@ -133,6 +153,8 @@ module _ {R n u : ℕ} {m : Map} {ws ss : List ℕ} {used F d r : ℕ} where
           is = args-less ws (h .home) F F r used (w .b) (args-at R n (h .home) ws ss used F r (h .on .fine) (h .is) w e plain) (omega arith) (omega arith);
           few = few-at R n (h .home) ws ss used F r (h .on .fine) (h .is) w e plain;
           on = on-part d (size (w .b)) (h .on) (omega arith);
+          scope = h .scope;
+          within = h .within;
           known = knows;
         }
 
@@ -143,7 +165,15 @@ module _ {R n u : ℕ} {m : Map} {ws ss : List ℕ} {used F d r : ℕ} where
   leaf : (w : Record) → IsRecord ws r w → w .b ≡ NONE → 7 ≤ w .tag → w .tag ≤ 8 → ReadyT R n u m ws ss used F d r → ReadyF R n m ws used F d r
   leaf w e z lo hi h =
       let t = e .tag-is in
-      record { reads = to-read h; looks = look h; room = h .on .fine .room; since = h .on .fine .since; rigid = (omega arith, omega arith); bare = sym (e .b-is) ∙ z }
+      record {
+        reads = to-read h;
+        looks = look h;
+        within = λ eight. inside h (fieldA ws r) (walk-variable (h .known) eight .0);
+        room = h .on .fine .room;
+        since = h .on .fine .since;
+        rigid = (omega arith, omega arith);
+        bare = sym (e .b-is) ∙ z;
+      }
 
   pub to-constant : (w : Record) → IsRecord ws r w → w .b ≡ NONE → w .tag ≡ 7 → ReadyT R n u m ws ss used F d r → ReadyF R n m ws used F d r
   to-constant w e z k h = leaf w e z (omega arith) (omega arith) h
@@ -164,21 +194,21 @@ module _ {R n u : ℕ} {m : Map} {ws ss : List ℕ} {used F d r : ℕ} where
   pub to-read-h : ReadyH R n u m ws ss used F d r → 4 * r + 3 < length ws
   to-read-h h = to-read (h .on)
 
-  pub to-looks-h : ReadyH R n u m ws ss used F d r → Looks (eqb F 0) m d
-  to-looks-h h = look (h .on)
-
-  pub to-counts : (w : Record) → IsRecord ws r w → ReadyH R n u m ws ss used F d r → Counts ws (w .b)
-  to-counts w e h = counts-at R n (h .on .home) ws ss used F r (h .on .on .fine) (h .on .is) w e (h .occ)
+  pub to-follow : (w : Record) → IsRecord ws r w → ReadyH R n u m ws ss used F d r → Following ws (eqb F 0) m d (w .b)
+  unfolding variables arguments
+  to-follow w e h =
+      record {
+        counts = counts-at R n (h .on .home) ws ss used F r (h .on .on .fine) (h .on .is) w e (h .occ);
+        looks = look (h .on);
+        within = rw (e .b-is) (all-map _ _ (inside (h .on)) (variables ws r) (walk-arguments (h .on .known) (h .occ)));
+      }
 
   pub to-solution : (w : Record) → IsRecord ws r w → ReadyH R n u m ws ss used F d r → w .a < length ss
   to-solution w e h = hole-held R n (h .on .home) ws ss used F r (h .on .on .fine) (h .on .is) w e (h .occ)
 
   pub to-keep : (w : Record) (next : Map) → IsRecord ws r w → ReadyH R n u m ws ss used F d r → Followed ws (eqb F 0) m d (w .b) next → Narrowing ws ss n used R (w .a) next
-  unfolding variables arguments
   to-keep w next e h g =
-      let k : length (elements ws (fieldB ws r)) ≡ next .len = rw (← e .b-is) (sym (g .len)) in
-      let v : length (variables ws r) ≡ next .len = simp length-map k in
-      narrows R n (h .on .home) ws ss used F r (h .on .on .fine) (h .on .is) w e (h .occ) next (g .whole) (sym (walk-arity (h .on .known) (h .occ)) ∙ v)
+      narrows R n (h .on .home) ws ss used F r (h .on .on .fine) (h .on .is) w e (h .occ) next (g .whole) (sym (walk-arity (h .on .known) (h .occ)) ∙ as-many e g)
 
   pub to-raise : ReadyH R n u m ws ss used F d r → r < 4096
   to-raise h = let lt = h .on .is .below in let wi = h .on .on .fine .within in let f = h .on .on .fine .few in omega arith
@@ -207,6 +237,7 @@ module _ {R n u : ℕ} {m : Map} {ws ss : List ℕ} {used F d r : ℕ} where
         let fh = risen w t G e st z g h .falls in
         let f = h .on .on .fits in
         let tp = h .on .on .top in
+        let many = as-many e fo in
         record {
           home = h .on .home;
           is = risen w t G e st z g h .sub;
@@ -218,6 +249,8 @@ module _ {R n u : ℕ} {m : Map} {ws ss : List ℕ} {used F d r : ℕ} where
             low = rw (ne-eqb G 0 (above G g h), fo .run) (followed (mapAt F m) d tp 0 (varsOf ws (w .b)) (h .on .on .low) .low);
             fits = omega arith;
           };
+          scope = length (variables ws r);
+          within = λ _. omega arith;
           known = walk-solution (h .on .known) (h .occ) t (rw (← e .a-is) st) z;
         }
 
@@ -231,6 +264,9 @@ module _ {R n : ℕ} {m : Map} {ws : List ℕ} {used F d r : ℕ} (h : ReadyF R 
 
   pub leaf-look : Looks (eqb F 0) m d
   leaf-look = h .looks
+
+  pub leaf-within : (w : Record) → IsRecord ws r w → w .tag ≡ 8 → Within (eqb F 0) m d (w .a)
+  leaf-within w e t = rw (e .a-is) (h .within (sym (e .tag-is) ∙ t))
 
   pub leaf-room : 4 * R ≤ length ws
   leaf-room = h .room

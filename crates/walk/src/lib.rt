@@ -29,7 +29,7 @@ ghost use lib.ListN.{length};
 ghost use Rattle.rules.specs.Walk.{assign as assignOf};
 ghost use Rattle.store.specs.Said.{Does²};
 ghost use Rattle.places.specs.Maps.{mapOf};
-ghost use Rattle.places.specs.Looking.{Looks};
+ghost use Rattle.places.specs.Looking.{Looks, Within};
 ghost use Rattle.walk.specs.Head.{headOf};
 ghost use Rattle.walk.specs.Walks.{WalksT, WalksF, WalksL, WalksH};
 ghost use Rattle.invariants.specs.Rise.{raised};
@@ -59,7 +59,7 @@ fn raise(n: u32, floor: u32, at: u32) -> u32
 
 // What a rigid head is written as: a constant as it is, a variable as its place.
 fn head_of(map: Map, above: bool, depth: u32, rec: Record) -> Found
-    requires { ⌜ Looks above map depth ⌝ }
+    requires { ⌜ Looks above map depth × (rec .tag ≡ 8 → Within above map depth (rec .a)) ⌝ }
     ensures { λ r. ⌜ headOf (mapOf above map) depth rec ≡ r ⌝ }
 {
     if rec.tag == VA {

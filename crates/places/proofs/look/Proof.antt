@@ -1,6 +1,6 @@
 -- `places::look` meets its contract.
 use borrow.Author.Needs.{needs}
-use Rattle.places.specs.Looking.{look-above, look-inside}
+use Rattle.places.specs.Looking.{within-at, look-above, look-inside}
 use Rattle.places.proofs.look.Statement.{statement}
 use Rattle.places.proofs.look.Tie as tie
 use Rattle.places.proofs.look.Reads as reads
@@ -13,5 +13,5 @@ look-spec =
     (λ c κs. search needs)
     (λ c. search look-above)
     (λ c. search needs)
-    (λ c κs. search needs)
+    (λ c κs. (search needs, search within-at))
     (λ c. search look-inside))

@@ -1,6 +1,6 @@
 -- `places::place_at` meets its contract.
 use borrow.Author.Needs.{needs}
-use Rattle.places.specs.Looking.{place-beyond, place-none, place-some}
+use Rattle.places.specs.Looking.{place-none, place-some}
 use Rattle.places.proofs.place_at.Statement.{statement}
 use Rattle.places.proofs.place_at.Tie as tie
 use Rattle.places.proofs.place_at.Reads as reads
@@ -10,7 +10,6 @@ pub place-at-spec : {M : Type 1} → statement M
 place-at-spec =
     tie.close
     (tie.spec
-    (λ c. search place-beyond)
     (λ c. search needs)
     (λ c. search needs)
     (λ c. search place-none)

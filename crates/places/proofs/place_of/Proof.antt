@@ -1,6 +1,6 @@
 -- `places::place_of` meets its contract.
 use borrow.Author.Needs.{needs}
-use Rattle.places.specs.Looking.{place-inner, place-out, place-at, place-fits}
+use Rattle.places.specs.Looking.{within-out, place-inner, place-out, place-at, place-fits}
 use Rattle.places.proofs.place_of.Statement.{statement}
 use Rattle.places.proofs.place_of.Tie as tie
 use Rattle.places.proofs.place_of.Reads as reads
@@ -11,7 +11,7 @@ place-of-spec =
     tie.close
     (tie.spec
     (λ c. search place-inner)
-    (λ c κs. search needs)
+    (λ c κs. (search needs, search within-out))
     (λ c. search needs)
     (λ c. search needs)
     (λ c. search place-out)

@@ -6,9 +6,9 @@ use Rattle.laws.specs.Lists.{size}
 use Rattle.places.specs.Filling.{fits-index, fits-next}
 use Rattle.invariants.specs.Rise.{reach}
 use Rattle.walk.specs.Walks.{hole-occurs, hole-keeps}
-use Rattle.walk.specs.Ready.{to-constant, to-variable, walked-leaf, fall-argument, fall-occurrence, to-read, to-hole, walked-hole, to-read-h, to-looks-h, to-counts, to-solution, to-keep, to-raise, fall-hop, to-hop, hops}
+use Rattle.walk.specs.Ready.{to-constant, to-variable, walked-leaf, fall-argument, fall-occurrence, to-read, to-hole, walked-hole, to-read-h, to-follow, to-solution, to-keep, to-raise, fall-hop, to-hop, hops}
 use Rattle.rewrite.specs.Below.{below-first, below-depth, below-less, below-read, below-next, below-then}
-use Rattle.walk.specs.Below.{Within, Rigid, opens, below-look, below-room, below-since, fall-hole, below-hole, ends-hole, ends-escape, below-rigid, ends-leaf, rigid-room, rigid-args, fall-args, ends-rigid, cell-reads, rigid-only, fall-only, ends-only}
+use Rattle.walk.specs.Below.{Down, Rigid, opens, below-look, below-within, below-room, below-since, fall-hole, below-hole, ends-hole, ends-escape, below-rigid, ends-leaf, rigid-room, rigid-args, fall-args, ends-rigid, cell-reads, rigid-only, fall-only, ends-only}
 use Rattle.walk.specs.Each.{Turn, turn-first, turn-kept, turn-held, turn-holds, turn-array, turn-cells, turn-ends, turn-read, turn-falls, turn-less, turn-head, room-left, turn-stops, turn-next}
 use Prim.Native.Nat.{ℕ, _+_, _*_, _<_}
 use denote.Ref.{now}
@@ -88,7 +88,7 @@ abbrev walk-args-μ-loop : walk-args-lts.MeasureT-loop
 walk-args-μ-loop table₀ solutions₀ task used map depth list noted₀ k₀ taken₀ left₀ table solutions noted k taken left = size left
 
 abbrev walk-term-Inv-loop : walk-term-lts.InvT-loop
-walk-term-Inv-loop table solutions task used map depth at inner₀ term₀ rec₀ inner term rec = Within (task .room) (task .n) (task .hole .0) map table solutions used (task .floor) depth at inner term rec
+walk-term-Inv-loop table solutions task used map depth at inner₀ term₀ rec₀ inner term rec = Down (task .room) (task .n) (task .hole .0) map table solutions used (task .floor) depth at inner term rec
 
 abbrev walk-term-μ-loop : walk-term-lts.MeasureT-loop
 walk-term-μ-loop table solutions task used map depth at inner₀ term₀ rec₀ inner term rec = term
@@ -177,7 +177,7 @@ pub +walk-args+walk-argument+walk-hole+walk-term-spec : {M : Type 1} → stateme
     (λ c κs. search to-read-h)
     (λ c. search needs)
     (λ c. search hole-occurs)
-    (λ c κs. (search to-counts, search to-looks-h))
+    (λ c κs. search to-follow)
     (λ c κs. search to-solution)
     (λ c κs. search to-keep)
     (λ c. search needs)
@@ -224,7 +224,7 @@ pub +walk-args+walk-argument+walk-hole+walk-term-spec : {M : Type 1} → stateme
     (λ c. search needs)
     (λ c. search needs)
     (λ c. search ends-hole)
-    (λ c κs. search below-look)
+    (λ c κs. (search below-look, search below-within))
     (λ c. search needs)
     (λ c. search needs)
     (λ c. search needs)

@@ -8,4 +8,4 @@ use Rattle.walk.proofs.head_of.Lts as lts
 use Rattle.places.proofs.place_of.Reads as place-of-reads
 
 pub head-of-spec : {M : Type 1} → statement M
-head-of-spec = tie.close (tie.spec (λ c κs. search needs) (λ c. search head-variable) (λ c. search head-constant))
+head-of-spec = tie.close (tie.spec (λ c κs. (search needs, search (c .before .before .pre .1))) (λ c. search head-variable) (λ c. search head-constant))

@@ -1,5 +1,5 @@
 -- `walk::walk_leaf` meets its contract.
-use Rattle.walk.specs.Ready.{leaf-read, leaf-look, leaf-room, leaf-since, leaf-walked, leaf-escape}
+use Rattle.walk.specs.Ready.{leaf-read, leaf-look, leaf-within, leaf-room, leaf-since, leaf-walked, leaf-escape}
 use borrow.Author.Needs.{needs}
 use Rattle.walk.proofs.walk_leaf.Statement.{statement}
 use Rattle.walk.proofs.walk_leaf.Tie as tie
@@ -14,7 +14,7 @@ walk-leaf-spec =
     tie.close
     (tie.spec
     (λ c κs. search leaf-read)
-    (λ c κs. search leaf-look)
+    (λ c κs. (search leaf-look, search leaf-within))
     (λ c. search needs)
     (λ c. search needs)
     (λ c. search needs)
