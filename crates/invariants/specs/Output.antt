@@ -1,16 +1,16 @@
 -- The output of show: every record refers to lower records of the right kind, and what is appended keeps that.
-use Prim.Native.Nat.{ℕ, zero, suc, _+_, _*_, _<_, _≤_}
+use Prim.Native.Nat.{ℕ, suc, _+_, _*_, _<_, _≤_}
 use mathlib.Core.Path.{_≡_, refl, sym, _∙_}
 use mathlib.Core.List.{List, [], _∷_}
 use native.Mathlib.Omega.{arith}
 use native.Mathlib.Nat.{le-refl}
 use native.Mathlib.Decide.{decLt}
-use lib.ListN.{length, getD}
+use lib.ListN.{length}
 use borrow.Author.Tests.{lt-ltb, le-ltb}
-use Rattle.rules.specs.Words.{NONE, tag, fieldA, fieldB, elements, CE, VA, HA}
+use Rattle.rules.specs.Words.{NONE, tag, fieldA, fieldB, elements, VA, HA}
 use Rattle.rules.specs.Store.{Store, Out, goes, fails, spent, fail, _>>=_, put, push, pushVariables, pushOccurrence}
 use Rattle.laws.specs.Lists.{Cell, Listed, elements-none, elements-cell, elements-kept}
-use Rattle.invariants.specs.Floor.{Sub, All, Args, Ext}
+use Rattle.invariants.specs.Floor.{Sub, Args, Ext}
 use Rattle.invariants.specs.Grow.{all-map, tag-kept, a-kept, b-kept, sub-kept}
 use Rattle.invariants.specs.Push.{put-length, put-kept, put-tag, put-a, put-b, ext-refl, ext-trans}
 use Rattle.invariants.specs.Copy.{Nobody}

@@ -1,8 +1,8 @@
 -- Printing follows the rules without fuel: a number's digits, and a term of an output.
-use Prim.Native.Nat.{ℕ, zero, suc, _+_, _*_, _/_, _%_, _<_, _≤_}
+use Prim.Native.Nat.{ℕ, zero, suc, _+_, _/_, _%_, _<_, _≤_}
 use mathlib.Core.Path.{_≡_, refl}
 use mathlib.Core.List.{List, [], _∷_, _++_, map}
-use mathlib.Core.Bool.{Bool, true, false}
+use mathlib.Core.Bool.{true, false}
 use native.Mathlib.Omega.{arith}
 use native.Mathlib.Nat.{le-refl}
 use native.Mathlib.Decide.{decLt, ℕ-discrete}
@@ -11,9 +11,9 @@ use borrow.Author.Tests.{lt-ltb, le-ltb}
 use Rattle.rules.specs.Lists.{enough}
 use Rattle.rules.specs.Words.{tag, fieldA, fieldB, elements, arguments}
 use Rattle.rules.specs.Store.{Store}
-use Rattle.rules.specs.Text.{Bytes, digits, decimal, brackets, printTerm, printed}
+use Rattle.rules.specs.Text.{Bytes, digits, decimal, printTerm, printed}
 use Rattle.invariants.specs.Forms.{form-6, form-7, form-8, form-9}
-use Rattle.invariants.specs.Floor.{Sub, All, Args}
+use Rattle.invariants.specs.Floor.{Sub, All}
 use Rattle.invariants.specs.Grow.{all-map, sub-less}
 use Rattle.invariants.specs.Output.{plain, Line, Outputs, ATerm}
 

@@ -10,8 +10,8 @@ use borrow.Author.Tests.{eq-eqb, ne-eqb}
 use Rattle.rules.specs.declared.Found.{Found}
 use Rattle.rules.specs.declared.Found.the-variants.{At, Nowhere}
 use Rattle.rules.specs.Lists.{enough}
-use Rattle.rules.specs.Words.{NONE, tag, fieldA, fieldB, elements, arguments, variables, CE, LA, CA, VA}
-use Rattle.rules.specs.Store.{Store, Out, fail, _>>=_, push, pushOccurrence, solved, solution}
+use Rattle.rules.specs.Words.{NONE, tag, fieldA, fieldB, elements, arguments, variables, CA, VA}
+use Rattle.rules.specs.Store.{Store, fail, _>>=_, push, solved, solution}
 use Rattle.rules.specs.Map.{Map, targets, placeOf, follow}
 use Rattle.rules.specs.Rewrite.{Writer, writeAll, writeTerm}
 use Rattle.rules.specs.Show.{showHole, expandHole, showTerm, answer}

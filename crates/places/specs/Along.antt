@@ -6,7 +6,7 @@ use lib.ListN.{set}
 use Rattle.table.specs.declared.Record.{Record}
 use Rattle.places.specs.declared.Map.{Map}
 use Rattle.table.specs.Reading.{IsRecord}
-use Rattle.rules.specs.Words.{NONE, fieldA, fieldB}
+use Rattle.rules.specs.Words.{NONE, fieldA}
 use Rattle.laws.specs.Lists.{elements-cell}
 use Rattle.invariants.specs.Floor.{All}
 use Rattle.places.specs.Maps.{noPlace}

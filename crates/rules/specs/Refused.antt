@@ -3,13 +3,12 @@ use Prim.Native.Nat.{ℕ, zero, suc, _+_}
 use mathlib.Core.Path.{_≡_, refl}
 use mathlib.Core.List.{List, [], _∷_, _++_, map}
 use lib.ListN.{replicate}
-use Rattle.rules.specs.declared.Reply.{Reply}
-use Rattle.rules.specs.Words.{NONE, BT, AR, KO, HO, CE, LA, CA, VA, HA, EQ}
+use Rattle.rules.specs.Words.{NONE, BT, AR, HO, CE, LA, CA, VA, HA, EQ}
 use Rattle.rules.specs.Answers.{reply}
 use Rattle.rules.specs.Solve.{solve}
 use Rattle.rules.specs.Show.{show}
 use Rattle.rules.specs.File.{read}
-use Rattle.rules.specs.Table.{_·_, Example, example, given, told, named, P7}
+use Rattle.rules.specs.Table.{_·_, example, given, told, named, P7}
 use Rattle.rules.specs.Examples.{Q1}
 use Rattle.rules.specs.All.{everything}
 
