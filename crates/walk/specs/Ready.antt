@@ -33,7 +33,7 @@ use Rattle.places.specs.Follow.{Following, Followed}
 use Rattle.narrow.specs.Narrowing.{Narrowing}
 use Rattle.rewrite.specs.Levels.{Headed, of-constant, of-variable}
 use Rattle.rewrite.specs.Parts.{term-read, body-at, args-at, size-args, few-at, counts-at, hole-held, narrows}
-use Rattle.walk.specs.Head.{headOf, head-at, head-rigid}
+use Rattle.walk.specs.Head.{headOf, head-at, head-plain}
 use Rattle.walk.specs.Walks.{mapAt, WalksT, WalksF, WalksL, WalksH, walk-rigid, walk-leaf, walk-escape, walk-hole, hole-hops}
 
 -- what every walk asks, at a measure k
@@ -132,7 +132,7 @@ module _ {R n u : ℕ} {m : Map} {ws ss : List ℕ} {used F d r : ℕ} where
 
   module _ (w : Record) (v : ℕ) (e : IsRecord ws r w) (g : Headed (mapAt F m) d w v) (h : ReadyT R n u m ws ss used F d r) where
     plain : w .tag ≡ 6 → ⊥
-    plain q = let lo = head-rigid _ _ _ v g .0 in absurd (omega arith)
+    plain = head-plain _ _ _ v g
 
     pub args-size : size (w .b) ≤ r
     args-size = size-args R n (h .home) ws ss used F r (h .on .fine) (h .is) w e plain
