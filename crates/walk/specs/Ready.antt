@@ -45,6 +45,7 @@ pub record On (R n u : ℕ) (m : Map) (home : ℕ → ℕ) (ws ss : List ℕ) (u
   pub low : Low (mapAt F m) top
   pub fits : top + d + reach R F k ≤ highest
 
+-- a term; its scope is the number of variables outside its lambdas, and below a solved hole the map has a position for each of them
 pub record ReadyT (R n u : ℕ) (m : Map) (ws ss : List ℕ) (used F d r : ℕ) : Type 0 where
   pub home : ℕ → ℕ
   pub is : Sub ws home F used r
