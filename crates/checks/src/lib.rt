@@ -16,14 +16,12 @@ fn check_records(table: &[u32], n: u32) -> Refusal
     ensures { λ x. ⌜ sound true (now (table .entry)) n ≡ refusalOf x ⌝ }
 {
     let mut marks = [0u8; 4096];
-    let mut lengths = [0u8; 4096];
     let mut last = [0u16; 4096];
     let mut before = [0u16; 4096];
     let mut equations = [0u16; 4096];
     refuse(
         table,
         &mut marks,
-        &mut lengths,
         &mut last,
         &mut before,
         &mut equations,

@@ -17,31 +17,27 @@ use Rattle.laws.specs.Tests.{false-true, both-true}
 use Rattle.table.specs.declared.Record.{Record}
 use Rattle.table.specs.Reading.{IsRecord}
 use Rattle.records.specs.Chains.{equals, latest, Chains, TypeAsks, TypeSays}
-use Rattle.records.proofs.Joined.{all-below}
+use Rattle.records.proofs.Joined.{all-below, both-yes}
 
--- Two records' words, one after the other
+-- Two records of a chain
 
 module _ (ws : List ℕ) (j : ℕ) (x : Record) where
   pub equals-tag : (tag ws j ≡ x .tag → ⊥) → false ≡ equals ws j x
   unfolding equals both
   equals-tag n = rw (ne-eqb _ _ n)
 
-  module _ (k : tag ws j ≡ x .tag) where
-    pub equals-a : (fieldA ws j ≡ x .a → ⊥) → false ≡ equals ws j x
-    unfolding equals both
-    equals-a n = rw (eq-eqb _ _ k, ne-eqb _ _ n)
-
-    pub equals-b : fieldA ws j ≡ x .a → (b : ℕ) → b ≡ fieldB ws j → eqb b (x .b) ≡ equals ws j x
-    unfolding equals both
-    equals-b e b eb = rw (eq-eqb _ _ k, eq-eqb _ _ e, eb)
+  pub equals-a : tag ws j ≡ x .tag → (a : ℕ) → a ≡ fieldA ws j → eqb a (x .a) ≡ equals ws j x
+  unfolding equals both
+  equals-a k a e = rw (eq-eqb _ _ k, e)
 
 -- record j differs from record r
 unfoldable pub differs : List ℕ → ℕ → ℕ → Bool
 differs ws r j = not (both (has ws j (tag ws r)) (both (eqb (fieldA ws j) (fieldA ws r)) (eqb (fieldB ws j) (fieldB ws r))))
 
-differs-is : (ws : List ℕ) (r j : ℕ) (x : Record) → IsRecord ws r x → differs ws r j ≡ not (equals ws j x)
+-- of one chain only the tag and a can differ
+differs-is : (ws : List ℕ) (r j : ℕ) (x : Record) → IsRecord ws r x → eqb (fieldB ws j) (fieldB ws r) ≡ true → differs ws r j ≡ not (equals ws j x)
 unfolding differs equals has
-differs-is ws r j x i = rw (i .tag-is, i .a-is, i .b-is)
+differs-is ws r j x i e = rw (i .tag-is, i .a-is, e, both-yes (eqb (fieldA ws j) (fieldA ws r)))
 
 module _ (ws : List ℕ) (r j : ℕ) where
   kind-differs : isType ws r ≡ true → isType ws j ≡ false → differs ws r j ≡ true
@@ -194,7 +190,7 @@ module _ (ws la be : List ℕ) (r : ℕ) (p : TypeAsks ws la be r) (x : Record) 
 
     module _ (b : Bool) (eb : b ≡ equals ws (j - 1) x) where
       step : new-type ws r ≡ both (not b) (all (differs ws r) (below (j - 1)))
-      step = s .left ∙ ap (λ i. all (differs ws r) (below i)) one-less ∙ all-below (differs ws r) (j - 1) ∙ rw (differs-is ws r (j - 1) x (w), ← eb)
+      step = s .left ∙ ap (λ i. all (differs ws r) (below i)) one-less ∙ all-below (differs ws r) (j - 1) ∙ rw (differs-is ws r (j - 1) x w (both-true _ _ member .1), ← eb)
 
       pub search-stop : b ≡ true → TypeSays ws la be r false
       search-stop t = record { answer = sym (step ∙ unfold both in rw t); next = λ q. absurd (false-true q) }

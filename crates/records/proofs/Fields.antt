@@ -1,41 +1,26 @@
--- The fields of a record: each fits and is marked, one after the other.
-use Prim.Native.Nat.{ℕ, _+_}
+-- The fields of a record: each fits and its reference is marked, one after the other, and then its own mark is its tag.
+use Prim.Native.Nat.{ℕ, _+_, _≤_}
 use mathlib.Core.Path.{_≡_, refl, sym, ap, _∙_}
 use mathlib.Core.Bool.{Bool, true, false, not}
 use mathlib.Core.List.{List, _∷_, _++_}
 use native.Mathlib.Omega.{arith}
 use native.Mathlib.Numerals.{add-one}
-use lib.ListN.{length}
+use borrow.Author.Tests.{not-true, not-false}
+use lib.ListN.{length, set}
+use lib.Seq.{getD-set-same}
 use Rattle.rules.specs.Lists.{both, either, among}
 use Rattle.rules.specs.Records.{fits, shaped, reference, uses, first-use}
 use Rattle.laws.specs.Tests.{false-true}
 use Rattle.table.specs.declared.Record.{Record}
 use Rattle.table.specs.Reading.{IsRecord}
-use Rattle.fields.specs.declared.Field.{Field}
-use Rattle.fields.specs.Kinds.{field}
-use Rattle.records.specs.Marks.{counts, Marked, used, fresh, one, reference-of, MarkAsks, MarkSays}
-use Rattle.records.specs.Rows.{FieldAsks, FieldSays, RowAsks, RowSays}
+use Rattle.records.specs.declared.Field.{Field}
+use Rattle.records.specs.Kinds.{field}
+use Rattle.records.specs.Marks.{counts, Marked, used, fresh, one, reference-of, FieldSays}
+use Rattle.records.specs.Rows.{RowAsks, RowSays}
 use Rattle.records.proofs.Joined.{among-append, those-append, both-swap}
 use Rattle.records.proofs.Fresh.{first-use-is}
-use Rattle.records.proofs.Uses.{one-is, lower, marked-same}
-
--- One field
-
-module _ (ws ms : List ℕ) (r : ℕ) (f : Field) (x : ℕ) (b : Bool) (e : b ≡ fits ws r (field f) x) where
-  pub field-unfit : b ≡ false → FieldSays ws ms ms r f x false
-  field-unfit t = record { answer = λ u m. unfold both in rw (← e, t); next = λ u m w. absurd (false-true w) }
-
-  module _ (t : b ≡ true) where
-    pub field-asks : FieldAsks ws ms r → MarkAsks ws ms f x
-    field-asks p =
-        let i = p .above .inside in
-        let n = p .room in
-        record { inside = λ y. let h = lower ws r x f (sym e ∙ t) y in omega arith; low = λ y. let h = lower ws r x f (sym e ∙ t) y in omega arith }
-
-    pub field-fits : (ms₁ : List ℕ) (k : Bool) → MarkSays ws ms ms₁ f x k → FieldSays ws ms ms₁ r f x k
-    field-fits ms₁ k s = record { answer = λ u m. s .answer u m ∙ (unfold both in rw (← e, t)); next = s .next }
-
--- Three fields
+use Rattle.records.proofs.Uses.{one-is, marked-same, marked-own}
+use Rattle.records.proofs.Holding.{field-answer, field-next}
 
 fresh-append : (b : Bool) (x : ℕ) (u ys : List ℕ) → fresh u (one b x ++ ys) ≡ both (fresh u (one b x)) (fresh (one b x ++ u) ys)
 unfolding fresh one both
@@ -45,9 +30,6 @@ fresh-append true x u ys = go (not (among u x))
     go : (a : Bool) → both a (fresh (x ∷ u) ys) ≡ both (both a true) (fresh (x ∷ u) ys)
     go true = refl
     go false = refl
-
-pub next-field : (ws ms : List ℕ) (r : ℕ) (a b c : Field) → RowAsks ws ms r a b c → (ms₁ : List ℕ) → length ms₁ ≡ length ms → FieldAsks ws ms₁ r
-next-field ws ms r a b c p ms₁ e = record { above = p .above; room = let h = p .room in omega arith }
 
 module _ (ws ms : List ℕ) (r : ℕ) (a b c : Field) (p : RowAsks ws ms r a b c) (x : Record) (w : IsRecord ws r x) where
   abbrev A : List ℕ
@@ -85,50 +67,74 @@ module _ (ws ms : List ℕ) (r : ℕ) (a b c : Field) (p : RowAsks ws ms r a b c
       (both-swap (fits ws r (field a) (x .a)) (both (fits ws r (field b) (x .b)) (fits ws r (field c) (x .c))) (fresh U A) (both (fresh (A ++ U) B) (fresh (B ++ (A ++ U)) C)) ∙
       ap (both (both (fits ws r (field a) (x .a)) (fresh U A))) (both-swap (fits ws r (field b) (x .b)) (fits ws r (field c) (x .c)) (fresh (A ++ U) B) (fresh (B ++ (A ++ U)) C)))
 
-  module _ (ms₁ : List ℕ) (i : Bool) (hi : FieldSays ws ms ms₁ r a (x .a) i) where
-    pub row-a : i ≡ false → RowSays ws ms₁ r false
+  few : r ≤ 4096
+  few = let h = p .above .few in omega arith
+
+  unkept : (ms₁ : List ℕ) → both (shaped ws r) (first-use ws r) ≡ false → RowSays ws ms₁ r false
+  unkept ms₁ e = record { answer = sym e; next = λ y. absurd (false-true y); own = λ y. absurd (false-true y) }
+
+  module _ (ms₁ : List ℕ) (i : Bool) (hi : FieldSays ms ms₁ r a (x .a) i) where
+    is-a : both (fits ws r (field a) (x .a)) (fresh U A) ≡ i
+    is-a = sym (field-answer ws ms U r (p .known) (p .above .lower) few ms₁ a (x .a) i hi)
+
+    pub row-a : not i ≡ true → RowSays ws ms₁ r false
     unfolding both
-    row-a t = record { answer = sym (row-parts ∙ rw (← hi .answer U (p .known), t)); next = λ y. absurd (false-true y) }
+    row-a t = unkept ms₁ (row-parts ∙ rw (is-a, not-true i t))
 
-    module _ (t : i ≡ true) (ms₂ : List ℕ) (j : Bool) (hj : FieldSays ws ms₁ ms₂ r b (x .b) j) where
-      after-a : Marked ms₁ (A ++ U)
-      after-a = hi .next U (p .known) t
+    module _ (t : not i ≡ false) (ms₂ : List ℕ) (j : Bool) (hj : FieldSays ms₁ ms₂ r b (x .b) j) where
+      after-a : Marked ws ms₁ (A ++ U) r
+      after-a = field-next ws ms U r (p .known) (p .above .lower) few ms₁ a (x .a) i hi (not-false i t)
 
-      pub row-b : j ≡ false → RowSays ws ms₂ r false
+      is-b : both (fits ws r (field b) (x .b)) (fresh (A ++ U) B) ≡ j
+      is-b = sym (field-answer ws ms₁ (A ++ U) r after-a (p .above .lower) few ms₂ b (x .b) j hj)
+
+      pub row-b : not j ≡ true → RowSays ws ms₂ r false
       unfolding both
-      row-b u = record { answer = sym (row-parts ∙ rw (← hi .answer U (p .known), t, ← hj .answer (A ++ U) after-a, u)); next = λ y. absurd (false-true y) }
+      row-b u = unkept ms₂ (row-parts ∙ rw (is-a, not-false i t, is-b, not-true j u))
 
-      pub row-c : (ms₃ : List ℕ) (k : Bool) → j ≡ true → FieldSays ws ms₂ ms₃ r c (x .c) k → RowSays ws ms₃ r k
-      unfolding both
-      row-c ms₃ k u hk =
-          let after-b = hj .next (A ++ U) after-a u in
-          record {
-            answer = sym (row-parts ∙ rw (← hi .answer U (p .known), t, ← hj .answer (A ++ U) after-a, u, ← hk .answer (B ++ (A ++ U)) after-b));
-            next = λ y. marked-same ms₃ _ _ together (hk .next (B ++ (A ++ U)) after-b y);
-          }
-        where
-          order : (g h j k : Bool) → either j (either h (either g k)) ≡ either (either g (either h j)) k
-          order true true true k = unfold either in refl
-          order true true false k = unfold either in refl
-          order true false true k = unfold either in refl
-          order true false false k = unfold either in refl
-          order false true true k = unfold either in refl
-          order false true false k = unfold either in refl
-          order false false true k = unfold either in refl
-          order false false false k = unfold either in refl
+      module _ (u : not j ≡ false) (ms₃ : List ℕ) (k : Bool) (hk : FieldSays ms₂ ms₃ r c (x .c) k) where
+        after-b : Marked ws ms₂ (B ++ (A ++ U)) r
+        after-b = field-next ws ms₁ (A ++ U) r after-a (p .above .lower) few ms₂ b (x .b) j hj (not-false j u)
 
-          now-used : used ws (r + 1) ≡ (A ++ (B ++ C)) ++ U
-          now-used = rw add-one (unfold used in rw uses-is)
+        is-c : both (fits ws r (field c) (x .c)) (fresh (B ++ (A ++ U)) C) ≡ k
+        is-c = sym (field-answer ws ms₂ (B ++ (A ++ U)) r after-b (p .above .lower) few ms₃ c (x .c) k hk)
 
-          together : (v : ℕ) → among (C ++ (B ++ (A ++ U))) v ≡ among (used ws (r + 1)) v
-          together v =
-              rw (
-                now-used,
-                among-append C (B ++ (A ++ U)) v,
-                among-append B (A ++ U) v,
-                among-append A U v,
-                among-append (A ++ (B ++ C)) U v,
-                among-append A (B ++ C) v,
-                among-append B C v,
-              )
-              (order (among A v) (among B v) (among C v) (among U v))
+        pub row-c : not k ≡ true → RowSays ws ms₃ r false
+        unfolding both
+        row-c v = unkept ms₃ (row-parts ∙ rw (is-a, not-false i t, is-b, not-false j u, is-c, not-true k v))
+
+        pub row-end : not k ≡ false → length ms₃ ≡ length ms → RowSays ws (set ms₃ r (x .tag)) r true
+        unfolding both
+        row-end v l =
+            let h = p .room in
+            record {
+              answer = sym (row-parts ∙ rw (is-a, not-false i t, is-b, not-false j u, is-c, not-false k v));
+              next = λ _. marked-own ws ms₃ _ r (marked-same ws ms₃ _ _ r together (field-next ws ms₂ (B ++ (A ++ U)) r after-b (p .above .lower) few ms₃ c (x .c) k hk (not-false k v))) (x .tag);
+              own = λ _. getD-set-same ms₃ r (x .tag) 0 (omega arith) ∙ w .tag-is;
+            }
+          where
+            order : (g h j k : Bool) → either j (either h (either g k)) ≡ either (either g (either h j)) k
+            order true true true k = unfold either in refl
+            order true true false k = unfold either in refl
+            order true false true k = unfold either in refl
+            order true false false k = unfold either in refl
+            order false true true k = unfold either in refl
+            order false true false k = unfold either in refl
+            order false false true k = unfold either in refl
+            order false false false k = unfold either in refl
+
+            now-used : used ws (r + 1) ≡ (A ++ (B ++ C)) ++ U
+            now-used = rw add-one (unfold used in rw uses-is)
+
+            together : (v : ℕ) → among (C ++ (B ++ (A ++ U))) v ≡ among (used ws (r + 1)) v
+            together v =
+                rw (
+                  now-used,
+                  among-append C (B ++ (A ++ U)) v,
+                  among-append B (A ++ U) v,
+                  among-append A U v,
+                  among-append (A ++ (B ++ C)) U v,
+                  among-append A (B ++ C) v,
+                  among-append B C v,
+                )
+                (order (among A v) (among B v) (among C v) (among U v))

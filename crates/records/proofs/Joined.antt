@@ -57,6 +57,11 @@ those-append ok (x ∷ xs) ys = go (ok x) refl (those-append ok xs ys)
 pub those-below : (ok : ℕ → Bool) (r : ℕ) → those ok (below (suc r)) ≡ those ok (below r) ++ those ok (r ∷ [])
 those-below ok r = rw (below-more r) (those-append ok (below r) (r ∷ []))
 
+pub both-yes : (b : Bool) → both b true ≡ b
+unfolding both
+both-yes true = refl
+both-yes false = refl
+
 pub both-swap : (a b c d : Bool) → both (both a b) (both c d) ≡ both (both a c) (both b d)
 both-swap true true c d = unfold both in refl
 both-swap true false true d = unfold both in refl

@@ -15,12 +15,14 @@ use Rattle.laws.specs.Tests.{false-true, both-true}
 use Rattle.laws.specs.Sound.{Sound, type-tag}
 use Rattle.table.specs.declared.Record.{Record}
 use Rattle.table.specs.Reading.{IsRecord}
-use Rattle.fields.specs.declared.Field.{Field}
-use Rattle.fields.specs.Kinds.{field, typeTag, Above}
-use Rattle.records.specs.Marks.{ListAsks, ListSays}
+use Rattle.records.specs.declared.Field.{Field}
+use Rattle.records.specs.Kinds.{field, Above}
+use Rattle.records.specs.Marks.{Marked, used, within, ListAsks, ListSays}
 use Rattle.records.specs.Chains.{TypeAsks, TypeSays}
 use Rattle.records.specs.Rows.{RowAsks, RowSays, RecordAsks, RecordSays}
-use Rattle.records.proofs.Lengths.{listed-other, lengths-other}
+use Rattle.records.proofs.Ranges.{kind-other}
+use Rattle.records.proofs.Uses.{marked-next}
+use Rattle.records.proofs.Lengths.{listed-other}
 use Rattle.records.proofs.Earlier.{chains-other, new-other}
 
 -- The rules one after the other
@@ -39,8 +41,8 @@ module _ (ws : List ℕ) (r : ℕ) where
   unfolding keeps
   keeps-is k e = rw e (keeps-parts (shaped ws r) (listed ws r) (new-type ws r) (first-use ws r))
 
-  pub says-broken : (ms ls la be : List ℕ) (b : Bool) → RowSays ws ms r b → b ≡ false → RecordSays ws ms ls la be r b
-  says-broken ms ls la be b s t = record {
+  pub says-broken : (ms la be : List ℕ) (b : Bool) → RowSays ws ms r b → b ≡ false → RecordSays ws ms la be r b
+  says-broken ms la be b s t = record {
     answer = t ∙ sym (keeps-is b (s .answer) ∙ (unfold both in rw t));
     next = λ v. absurd (false-true (sym t ∙ v));
   }
@@ -74,7 +76,7 @@ module _ (ws : List ℕ) (r : ℕ) where
 
 -- A record, by tag
 
-module _ (ws ms ls la be : List ℕ) (r : ℕ) (p : RecordAsks ws ms ls la be r) where
+module _ (ws ms la be : List ℕ) (r : ℕ) (p : RecordAsks ws ms la be r) where
   above : Above ws r
   above = record { inside = p .inside; few = p .few; lower = p .passed .lower }
 
@@ -89,20 +91,27 @@ module _ (ws ms ls la be : List ℕ) (r : ℕ) (p : RecordAsks ws ms ls la be r)
     at-tag : tag ws r ≡ k
     at-tag = sym (w .tag-is) ∙ e
 
-    pub row-asks : (a b c : Field) → getD shapes k (never, never, never) ≡ (field a, field b, field c) → RowAsks ws ms r a b c
-    row-asks a b c h = let m = p .room .marks in record {
+    pub row-asks : k ≤ 10 → (a b c : Field) → getD shapes k (never, never, never) ≡ (field a, field b, field c) → RowAsks ws ms r a b c
+    row-asks l a b c h = let m = p .room .marks in let q = at-tag in record {
       above = above;
       row = shape-at ws r k at-tag a b c h;
+      tag-low = omega arith;
       room = omega arith;
       known = p .passed .marks;
     }
 
-    kind-is : (t : Bool) → typeTag k ≡ t → isType ws r ≡ t
-    unfolding isType typeTag
+    kind-is : (t : Bool) → within 1 2 k ≡ t → isType ws r ≡ t
+    unfolding isType within
     kind-is t h = rw at-tag h
 
-    module _ (ms₁ : List ℕ) (b : Bool) (s : RowSays ws ms₁ r b) (t : b ≡ true) where
-      pub type-asks : typeTag k ≡ true → TypeAsks ws la be r
+    -- the mark of a record that is no cell is its tag
+    own-mark : (ms₁ : List ℕ) (b : Bool) → length ms₁ ≡ length ms → RowSays ws ms₁ r b → b ≡ true → (tag ws r ≡ CE → ⊥) → Marked ws ms₁ (used ws (r + 1)) (r + 1)
+    own-mark ms₁ b l s t n =
+        let m = p .room .marks in
+        marked-next ws ms₁ (used ws (r + 1)) r (s .next t) (omega arith) (s .own t ∙ sym (kind-other ws r n))
+
+    module _ (ms₁ : List ℕ) (b : Bool) (lm : length ms₁ ≡ length ms) (s : RowSays ws ms₁ r b) (t : b ≡ true) where
+      pub type-asks : within 1 2 k ≡ true → TypeAsks ws la be r
       type-asks h = let l = p .room .last in let m = p .room .before in record {
         inside = p .inside;
         few = p .few;
@@ -113,13 +122,12 @@ module _ (ws ms ls la be : List ℕ) (r : ℕ) (p : RecordAsks ws ms ls la be r)
         known = p .passed .chains;
       }
 
-      pub says-type : typeTag k ≡ true → (la₁ be₁ : List ℕ) (y : Bool) → TypeSays ws la₁ be₁ r y → RecordSays ws ms₁ ls la₁ be₁ r y
+      pub says-type : within 1 2 k ≡ true → (la₁ be₁ : List ℕ) (y : Bool) → TypeSays ws la₁ be₁ r y → RecordSays ws ms₁ la₁ be₁ r y
       says-type h la₁ be₁ y q = record {
         answer = answer;
         next = λ v. record {
           lower = sound-next (sym answer ∙ v);
-          marks = s .next t;
-          lengths = lengths-other ws r ls no-cell (p .passed .lengths);
+          marks = own-mark ms₁ b lm s t no-cell;
           chains = q .next v;
         };
       }
@@ -130,22 +138,21 @@ module _ (ws ms ls la be : List ℕ) (r : ℕ) (p : RecordAsks ws ms ls la be r)
           answer : y ≡ keeps ws r
           answer = q .answer ∙ sym (keeps-is ws r b (s .answer) ∙ (unfold both in rw (t, ← listed-other ws r no-cell)))
 
-      pub list-asks : k ≡ CE → ListAsks ws ls r
-      list-asks c = let l = p .room .lengths in record {
+      pub list-asks : k ≡ CE → ListAsks ws ms₁ r
+      list-asks c = let l = p .room .marks in record {
         above = above;
         cell = at-tag ∙ c;
         so = row-shaped ws r ms₁ b s t;
         room = omega arith;
-        known = p .passed .lengths;
+        known = s .next t;
       }
 
-      pub says-cell : k ≡ CE → (ls₁ : List ℕ) (y : Bool) → ListSays ws ls₁ r y → RecordSays ws ms₁ ls₁ la be r y
-      says-cell c ls₁ y q = record {
+      pub says-cell : k ≡ CE → (ms₂ : List ℕ) (y : Bool) → ListSays ws ms₂ r y → RecordSays ws ms₂ la be r y
+      says-cell c ms₂ y q = record {
         answer = answer;
         next = λ v. record {
           lower = sound-next (sym answer ∙ v);
-          marks = s .next t;
-          lengths = q .next v;
+          marks = q .next v;
           chains = chains-other ws la be r no-type (p .passed .chains);
         };
       }
@@ -160,15 +167,14 @@ module _ (ws ms ls la be : List ℕ) (r : ℕ) (p : RecordAsks ws ms ls la be r)
           answer : y ≡ keeps ws r
           answer = q .answer ∙ sym (keeps-is ws r b (s .answer) ∙ rw (t, new-other ws r no-type) (single (listed ws r)))
 
-    pub says-row : typeTag k ≡ false → (k ≡ CE → ⊥) → (ms₁ : List ℕ) (y : Bool) → RowSays ws ms₁ r y → RecordSays ws ms₁ ls la be r y
-    says-row t n ms₁ y s =
+    pub says-row : within 1 2 k ≡ false → (k ≡ CE → ⊥) → (ms₁ : List ℕ) (y : Bool) → length ms₁ ≡ length ms → RowSays ws ms₁ r y → RecordSays ws ms₁ la be r y
+    says-row t n ms₁ y lm s =
         let no-cell : tag ws r ≡ CE → ⊥ = λ q. n (sym at-tag ∙ q) in
         record {
           answer = answer no-cell;
           next = λ v. record {
             lower = sound-next (sym (answer no-cell) ∙ v);
-            marks = s .next v;
-            lengths = lengths-other ws r ls no-cell (p .passed .lengths);
+            marks = own-mark ms₁ y lm s v no-cell;
             chains = chains-other ws la be r (kind-is false t) (p .passed .chains);
           };
         }
@@ -188,7 +194,7 @@ module _ (ws ms ls la be : List ℕ) (r : ℕ) (p : RecordAsks ws ms ls la be r)
       let m : length shapes ≤ tag ws r = omega arith in
       List·getD-eq-default shapes (never, never, never) m
 
-  pub says-unknown : (x : Record) → IsRecord ws r x → (0 < x .tag → 10 < x .tag) → RecordSays ws ms ls la be r false
+  pub says-unknown : (x : Record) → IsRecord ws r x → (0 < x .tag → 10 < x .tag) → RecordSays ws ms la be r false
   says-unknown x w h = record {
     answer = let e = unknown (ℕ-discrete (tag ws r) 0) (rw (w .tag-is) at h) in unfold keeps in unfold shaped in unfold fits in unfold both in rw e;
     next = λ v. absurd (false-true v);

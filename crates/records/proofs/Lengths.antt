@@ -1,52 +1,27 @@
 -- Lists are short and not mixed: the length of a cell's list is one more than its rest's.
-use Prim.Native.Nat.{ℕ, zero, suc, _+_, _<_, _≤_}
+use Prim.Native.Nat.{ℕ, zero, suc, _+_, _-_, _<_, _≤_}
 use mathlib.Core.Path.{_≡_, refl, sym, ap, _∙_}
 use mathlib.Core.Bool.{Bool, true, false, not}
 use mathlib.Core.List.{List}
 use mathlib.Core.Logic.{_⊎_, inl, inr}
 use native.Mathlib.Omega.{arith}
 use native.Mathlib.Decide.{ℕ-discrete}
-use borrow.Author.Tests.{ltb-true, leb-true, eqb-true, eq-eqb, ne-eqb, lt-leb, le-leb}
-use lib.ListN.{length, getD, set}
-use lib.Seq.{getD-set-same, getD-set-other}
+use borrow.Author.Tests.{ltb-true, eqb-true, eq-eqb, ne-eqb, lt-leb, le-leb}
+use mir.Syntax.{w8}
+use mir.Val.{Fits}
+use lib.ListN.{length, getD, set, length-set}
+use lib.Seq.{getD-set-same}
 use lib.Dec.{eqb, ltb, leb}
-use Rattle.rules.specs.Lists.{both, either}
+use Rattle.rules.specs.Lists.{both, either, among}
 use Rattle.rules.specs.Words.{NONE, CE, tag, fieldA, fieldB, has, isType, isTerm, cells}
-use Rattle.rules.specs.Records.{element, rest, shapes, shape, fits, shaped, alike, listed, keeps}
+use Rattle.rules.specs.Records.{element, rest, shapes, shape, fits, shaped, alike, listed}
 use Rattle.laws.specs.Tests.{false-true, both-true, either-true}
-use Rattle.laws.specs.Sound.{Sound, cell-element}
 use Rattle.laws.specs.Lists.{cells-none, cells-more}
-use Rattle.fields.specs.Kinds.{typeTag, termTag, Above}
-use Rattle.records.specs.Marks.{alikeTags, Lengths, ListSays}
-
--- Both types or both terms
-
-type-two : (k : ℕ) → typeTag k ≡ true → k ≤ 2
-unfolding typeTag
-type-two k e = leb-true k 2 (both-true _ _ e .1)
-
-type-no-term : (k : ℕ) → typeTag k ≡ true → termTag k ≡ false
-unfolding termTag both
-type-no-term k e = let l = type-two k e in rw (lt-leb 6 k (omega arith))
-
-either-no : (b : Bool) → b ≡ either b false
-unfolding either
-either-no true = refl
-either-no false = refl
-
-module _ (k j : ℕ) (x : Bool) (ex : x ≡ typeTag k) where
-  pub alike-types : (y : Bool) → x ≡ true → y ≡ typeTag j → y ≡ alikeTags k j
-  unfolding alikeTags both
-  alike-types y t ey = either-no y ∙ rw (type-no-term k (sym ex ∙ t), ← ex, t, ey)
-
-  module _ (t : x ≡ false) (z : Bool) (ez : z ≡ termTag k) where
-    pub alike-terms : (y : Bool) → z ≡ true → y ≡ termTag j → y ≡ alikeTags k j
-    unfolding alikeTags both either
-    alike-terms y u ey = ey ∙ rw (← ex, t, ← ez, u)
-
-    pub alike-none : z ≡ false → false ≡ alikeTags k j
-    unfolding alikeTags both either
-    alike-none u = rw (← ex, t, ← ez, u)
+use Rattle.table.specs.declared.Record.{Record}
+use Rattle.table.specs.Reading.{IsRecord}
+use Rattle.records.specs.Marks.{counts, base, kind, mark, Marked, used, ListAsks, ListSays}
+use Rattle.records.proofs.Ranges.{within-true, kind-cell, kind-type, kind-term, other-kind, shaped-so, short, some}
+use Rattle.records.proofs.Uses.{type-counts, cell-counts, rest-used, mark-used, mark-unused, marked-own, marked-next}
 
 -- Lengths
 
@@ -63,101 +38,186 @@ cells-short (suc k) ws l h = go (ℕ-discrete l NONE) (λ q. cells-short k ws (f
     go (yes e) ih = rw (cells-none (suc k) ws l e, cells-none (suc (suc k)) ws l e)
     go (no e) ih = let q = ap length (cells-more (suc k) ws l e) in rw (cells-more k ws l e, cells-more (suc k) ws l e, ih (omega arith))
 
-module _ (ws : List ℕ) (r : ℕ) (g : Sound ws r) where
-  -- a list that begins below r has at most 16 cells
-  lower-short : (c : ℕ) → c < r → tag ws c ≡ CE → length (cells 17 ws c) ≤ 16
-  unfolding keeps listed has
-  lower-short c h e = go (either-true _ _ (both-true _ _ (both-true _ _ (g c h) .1) .0))
-    where
-      go : (not (eqb (tag ws c) CE) ≡ true) ⊎ (both (alike ws c) (leb (length (cells 17 ws c)) 16) ≡ true) → length (cells 17 ws c) ≤ 16
-      go (inl z) = absurd (false-true (rw e at z))
-      go (inr z) = leb-true _ _ (both-true _ _ z .1)
+-- A cell of types or not, and a rest of types or not with k cells: the rest's mark against what the cell's list is counted from
 
-module _ (ws : List ℕ) (r : ℕ) where
-  pub listed-other : (tag ws r ≡ CE → ⊥) → true ≡ listed ws r
-  unfolding listed has either
-  listed-other z = rw (ne-eqb _ _ z)
+-- both of types or both of terms, and one more cell is not too many
+joins : Bool → Bool → ℕ → Bool
+joins t s k = both (either (both t s) (both (not t) (not s))) (leb (suc k) 16)
 
-  pub lengths-other : (ls : List ℕ) → (tag ws r ≡ CE → ⊥) → Lengths ls ws r → Lengths ls ws (r + 1)
-  lengths-other ls z p = record { marked = λ c h e. p .marked c (below c h e) e }
+module _ (k : ℕ) (one : 1 ≤ k) (few : k ≤ 16) where
+  mark-below : (t s : Bool) → base s + k ≤ base t → joins t s k ≡ false
+  unfolding joins base both either
+  mark-below true true h = absurd (omega arith)
+  mark-below true false h = refl
+  mark-below false true h = refl
+  mark-below false false h = absurd (omega arith)
+
+  mark-above : (t s : Bool) → base t + 16 ≤ base s + k → joins t s k ≡ false
+  unfolding joins base both either
+  mark-above true true h = lt-leb (suc k) 16 (omega arith)
+  mark-above true false h = refl
+  mark-above false true h = refl
+  mark-above false false h = lt-leb (suc k) 16 (omega arith)
+
+  mark-between : (t s : Bool) → base t < base s + k → base s + k < base t + 16 → (joins t s k ≡ true) × (base s ≡ base t)
+  unfolding joins base both either
+  mark-between true true a b = (le-leb (suc k) 16 (omega arith), refl)
+  mark-between true false a b = absurd (omega arith)
+  mark-between false true a b = absurd (omega arith)
+  mark-between false false a b = (le-leb (suc k) 16 (omega arith), refl)
+
+base-high : (t : Bool) → base t ≤ 32
+unfolding base
+base-high true = omega arith
+base-high false = omega arith
+
+-- A cell
+
+pub listed-other : (ws : List ℕ) (r : ℕ) → (tag ws r ≡ CE → ⊥) → true ≡ listed ws r
+unfolding listed has either
+listed-other ws r z = rw (ne-eqb _ _ z)
+
+module _ (ws ms : List ℕ) (r : ℕ) (p : ListAsks ws ms r) (x : Record) (w : IsRecord ws r x) where
+  cell-fits : (fits ws r element (fieldA ws r) ≡ true) × (fits ws r rest (fieldB ws r) ≡ true)
+  unfolding shaped shape shapes
+  cell-fits = let q = both-true _ _ (rw (p .cell) at (p .so)) in (q .0, both-true _ _ (q .1) .0)
+
+  element-low : fieldA ws r < r
+  unfolding fits
+  element-low = ltb-true _ _ (both-true _ _ (cell-fits .0) .0)
+
+  pub element-room : x .a < length ms
+  element-room = let l = element-low in let m = p .room in let e = w .a-is in omega arith
+
+  -- the mark of a type is at most 2
+  element-mark : leb (getD ms (x .a) 0) 2 ≡ isType ws (fieldA ws r)
+  element-mark = rw (w .a-is, p .known .marked (fieldA ws r) element-low) (go (isType ws (fieldA ws r)) refl)
     where
-      below : (c : ℕ) → c < r + 1 → tag ws c ≡ CE → c < r
-      below c h e = go (ℕ-discrete c r)
+      go : (t : Bool) → isType ws (fieldA ws r) ≡ t → leb (mark ws (used ws (r + 1)) (fieldA ws r)) 2 ≡ isType ws (fieldA ws r)
+      go true q =
+          let m = mark-unused ws (used ws (r + 1)) (fieldA ws r) (unfold both in rw (type-counts ws (fieldA ws r) q)) in
+          let k = within-true 1 2 (kind ws (fieldA ws r)) (kind-type ws (fieldA ws r) ∙ q) .1 in
+          le-leb (mark ws (used ws (r + 1)) (fieldA ws r)) 2 (omega arith) ∙ sym q
+      go false q =
+          let e : isTerm ws (fieldA ws r) ≡ true = other-kind ws r (p .so) (p .cell) ∙ ap not q in
+          let k = within-true 6 9 (kind ws (fieldA ws r)) (kind-term ws (fieldA ws r) ∙ e) .0 in
+          lt-leb (mark ws (used ws (r + 1)) (fieldA ws r)) 2 (above (both (counts ws (fieldA ws r)) (among (used ws (r + 1)) (fieldA ws r))) refl k) ∙ sym q
         where
-          go : Dec (c ≡ r) → c < r
-          go (yes q) = absurd (z (ap (tag ws) (sym q) ∙ e))
-          go (no q) = omega arith
+          above : (b : Bool) → both (counts ws (fieldA ws r)) (among (used ws (r + 1)) (fieldA ws r)) ≡ b → 6 ≤ kind ws (fieldA ws r) → 2 < mark ws (used ws (r + 1)) (fieldA ws r)
+          above true z k = let m = mark-used ws (used ws (r + 1)) (fieldA ws r) z in omega arith
+          above false z k = let m = mark-unused ws (used ws (r + 1)) (fieldA ws r) z in omega arith
 
-  pub lengths-next : (ls : List ℕ) (v : ℕ) → r < length ls → v ≡ length (cells 17 ws r) → Lengths ls ws r → Lengths (set ls r v) ws (r + 1)
-  lengths-next ls v l e p = record { marked = λ c h k. go c (ℕ-discrete c r) h k }
-    where
-      go : (c : ℕ) → Dec (c ≡ r) → c < r + 1 → tag ws c ≡ CE → getD (set ls r v) c 0 ≡ length (cells 17 ws c)
-      go c (yes q) h k = rw q (getD-set-same ls r v 0 l ∙ e)
-      go c (no q) h k = getD-set-other ls r c v 0 q ∙ p .marked c (omega arith) k
+  real : r ≡ NONE → ⊥
+  real q = let f = p .above .few in omega arith
 
-  module _ (p : Above ws r) (sh : shaped ws r ≡ true) (e : tag ws r ≡ CE) where
-    cell-fits : (fits ws r element (fieldA ws r) ≡ true) × (fits ws r rest (fieldB ws r) ≡ true)
-    unfolding shaped shape shapes
-    cell-fits = let q = both-true _ _ (rw e at sh) in (q .0, both-true _ _ (q .1) .0)
+  marked-here : (v : ℕ) → v ≡ kind ws r → Marked ws (set ms r v) (used ws (r + 1)) (r + 1)
+  marked-here v e = marked-next ws (set ms r v) (used ws (r + 1)) r (marked-own ws ms (used ws (r + 1)) r (p .known) v) (simp length-set (p .room)) (getD-set-same ms r v 0 (p .room) ∙ e)
 
-    pub element-low : fieldA ws r < r
-    unfolding fits
-    element-low = ltb-true _ _ (both-true _ _ (cell-fits .0) .0)
+  module _ (s : ℕ) (es : s ≡ base (leb (getD ms (x .a) 0) 2)) where
+    start-is : s ≡ base (isType ws (fieldA ws r))
+    start-is = es ∙ ap base element-mark
 
-    pub rest-low : (fieldB ws r ≡ NONE → ⊥) → (fieldB ws r < r) × (tag ws (fieldB ws r) ≡ CE)
-    unfolding fits has
-    rest-low z = go (either-true _ _ (cell-fits .1))
-      where
-        go : (eqb (fieldB ws r) NONE ≡ true) ⊎ (both (ltb (fieldB ws r) r) (eqb (tag ws (fieldB ws r)) CE) ≡ true) → (fieldB ws r < r) × (tag ws (fieldB ws r) ≡ CE)
-        go (inl x) = absurd (z (eqb-true _ _ x))
-        go (inr x) = let q = both-true _ _ x in (ltb-true _ _ (q .0), eqb-true _ _ (q .1))
+    start-low : s ≤ 32
+    start-low = let h = base-high (isType ws (fieldA ws r)) in let e = start-is in omega arith
 
-    real : r ≡ NONE → ⊥
-    real q = let f = p .few in omega arith
+    pub one-fits : Fits w8 (s + 1)
+    one-fits = let h = start-low in record { fits = omega arith }
 
-    length-one : fieldB ws r ≡ NONE → 1 ≡ length (cells 17 ws r)
-    length-one z = rw (cells-more 16 ws r real, cells-none 16 ws (fieldB ws r) z)
+    pub most-fits : Fits w8 (s + 16)
+    most-fits = let h = start-low in record { fits = omega arith }
 
-    pub list-one : (ls : List ℕ) → r < length ls → fieldB ws r ≡ NONE → Lengths ls ws r → ListSays ws (set ls r 1) r true
+    pub list-one : x .b ≡ NONE → ListSays ws (set ms r (s + 1)) r true
     unfolding listed alike has either both
-    list-one ls l z q = record {
-      answer = rw (e, eq-eqb _ _ z, ← length-one z);
-      next = λ _. lengths-next ls 1 l (length-one z) q;
+    list-one z = record {
+      answer = rw (p .cell, eq-eqb (fieldB ws r) NONE (sym (w .b-is) ∙ z), ← length-one);
+      next = λ _. marked-here (s + 1) (rw start-is (sym (kind-cell ws r (p .cell) ∙ rw (← length-one))));
     }
+      where
+        length-one : 1 ≡ length (cells 17 ws r)
+        length-one = rw (cells-more 16 ws r real, cells-none 16 ws (fieldB ws r) (sym (w .b-is) ∙ z))
 
-    module _ (z : fieldB ws r ≡ NONE → ⊥) where
-      length-more : suc (length (cells 17 ws (fieldB ws r))) ≡ length (cells 17 ws r)
+    module _ (z : x .b ≡ NONE → ⊥) where
+      some-rest : fieldB ws r ≡ NONE → ⊥
+      some-rest q = z (w .b-is ∙ q)
+
+      rest-low : (fieldB ws r < r) × (tag ws (fieldB ws r) ≡ CE)
+      unfolding fits has
+      rest-low = go (either-true _ _ (cell-fits .1))
+        where
+          go : (eqb (fieldB ws r) NONE ≡ true) ⊎ (both (ltb (fieldB ws r) r) (eqb (tag ws (fieldB ws r)) CE) ≡ true) → (fieldB ws r < r) × (tag ws (fieldB ws r) ≡ CE)
+          go (inl q) = absurd (some-rest (eqb-true _ _ q))
+          go (inr q) = let y = both-true _ _ q in (ltb-true _ _ (y .0), eqb-true _ _ (y .1))
+
+      pub rest-room : x .b < length ms
+      rest-room = let l = rest-low .0 in let m = p .room in let e = w .b-is in omega arith
+
+      -- how many cells the rest has
+      abbrev count : ℕ
+      count = length (cells 17 ws (fieldB ws r))
+
+      rest-mark : getD ms (x .b) 0 ≡ base (isType ws (fieldA ws (fieldB ws r))) + count + 128
+      unfolding shape shapes both
+      rest-mark =
+          let q = rest-low in
+          let e : shape ws r .1 ≡ rest = rw (p .cell) in
+          rw (w .b-is)
+          (p .known .marked (fieldB ws r) (q .0) ∙ mark-used ws (used ws (r + 1)) (fieldB ws r) (rw (cell-counts ws (fieldB ws r) (q .1), rest-used ws r e some-rest (q .1))) ∙ ap (λ k. k + 128) (kind-cell ws (fieldB ws r) (q .1)))
+
+      pub rest-used-mark : 128 ≤ getD ms (x .b) 0
+      rest-used-mark = let e = rest-mark in omega arith
+
+      length-more : suc count ≡ length (cells 17 ws r)
       length-more =
-          let q = rest-low z in
-          let s = cells-short 16 ws (fieldB ws r) (lower-short ws r (p .lower) (fieldB ws r) (q .0) (q .1)) in
-          rw (cells-more 16 ws r real, s)
+          let q = rest-low in
+          let l = cells-short 16 ws (fieldB ws r) (short ws r (p .above .lower) (fieldB ws r) (q .0) (q .1)) in
+          rw (cells-more 16 ws r real, l)
 
-      listed-more : listed ws r ≡ both (alikeTags (tag ws (fieldA ws r)) (tag ws (fieldA ws (fieldB ws r)))) (leb (suc (length (cells 17 ws (fieldB ws r)))) 16)
-      unfolding listed alike alikeTags has isType isTerm typeTag termTag either
-      listed-more = rw (e, ne-eqb _ _ z, length-more)
+      listed-is : listed ws r ≡ joins (isType ws (fieldA ws r)) (isType ws (fieldA ws (fieldB ws r))) count
+      unfolding listed alike joins has either
+      listed-is =
+          let q = rest-low in
+          rw (
+            p .cell,
+            ne-eqb (fieldB ws r) NONE some-rest,
+            ← length-more,
+            other-kind ws r (p .so) (p .cell),
+            other-kind ws (fieldB ws r) (shaped-so ws r (p .above .lower) (fieldB ws r) (q .0)) (q .1),
+          )
 
-      pub next-low : fieldA ws (fieldB ws r) < fieldB ws r
-      next-low = let q = rest-low z in cell-element ws r (p .lower) (fieldB ws r) (q .0) (q .1)
+      one-cell : 1 ≤ count
+      one-cell = let q = rest-low in let f = p .above .few in some ws r (p .above .lower) (fieldB ws r) (q .0) (q .1) (omega arith)
 
-      module _ (x : Bool) (k j : ℕ) (ex : x ≡ alikeTags k j) (ek : k ≡ tag ws (fieldA ws r)) (ej : j ≡ tag ws (fieldA ws (fieldB ws r))) where
-        alike-is : listed ws r ≡ both x (leb (suc (length (cells 17 ws (fieldB ws r)))) 16)
-        alike-is = listed-more ∙ rw (← ek, ← ej, ← ex)
+      few-cells : count ≤ 16
+      few-cells = let q = rest-low in short ws r (p .above .lower) (fieldB ws r) (q .0) (q .1)
 
-        pub list-mixed : (ls : List ℕ) → x ≡ false → ListSays ws ls r false
-        unfolding both
-        list-mixed ls t = record { answer = sym (alike-is ∙ rw t); next = λ q. absurd (false-true q) }
+      refused : joins (isType ws (fieldA ws r)) (isType ws (fieldA ws (fieldB ws r))) count ≡ false → ListSays ws ms r false
+      refused e = record { answer = sym (listed-is ∙ e); next = λ q. absurd (false-true q) }
 
-        module _ (ls : List ℕ) (q : Lengths ls ws r) (t : x ≡ true) (c : ℕ) (ec : c ≡ getD ls (fieldB ws r) 0) where
-          count-is : c ≡ length (cells 17 ws (fieldB ws r))
-          count-is = let l = rest-low z in ec ∙ q .marked (fieldB ws r) (l .0) (l .1)
+      pub list-low : getD ms (x .b) 0 - 128 ≤ s → ListSays ws ms r false
+      list-low h =
+          let e = start-is in
+          let m = rest-mark in
+          refused (mark-below count one-cell few-cells (isType ws (fieldA ws r)) (isType ws (fieldA ws (fieldB ws r))) (omega arith))
 
-          pub list-long : 16 ≤ c → ListSays ws ls r false
-          unfolding both
-          list-long h = record { answer = sym (alike-is ∙ rw (t, ← count-is, lt-leb (suc c) 16 (omega arith))); next = λ w. absurd (false-true w) }
+      pub list-long : s + 16 ≤ getD ms (x .b) 0 - 128 → ListSays ws ms r false
+      list-long h =
+          let e = start-is in
+          let m = rest-mark in
+          refused (mark-above count one-cell few-cells (isType ws (fieldA ws r)) (isType ws (fieldA ws (fieldB ws r))) (omega arith))
 
-          pub list-more : r < length ls → c < 16 → ListSays ws (set ls r (c + 1)) r true
-          unfolding both
-          list-more room h =
-              let n = count-is in
-              let m = length-more in
-              record { answer = sym (alike-is ∙ rw (t, ← count-is, le-leb (suc c) 16 (omega arith))); next = λ _. lengths-next ls (c + 1) room (omega arith) q }
+      pub more-fits : Fits w8 (getD ms (x .b) 0 - 128 + 1)
+      more-fits =
+          let h = base-high (isType ws (fieldA ws (fieldB ws r))) in
+          let m = rest-mark in
+          let f = few-cells in
+          record { fits = omega arith }
+
+      pub list-more : s < getD ms (x .b) 0 - 128 → getD ms (x .b) 0 - 128 < s + 16 → ListSays ws (set ms r (getD ms (x .b) 0 - 128 + 1)) r true
+      list-more a b =
+          let e = start-is in
+          let m = rest-mark in
+          let q = mark-between count one-cell few-cells (isType ws (fieldA ws r)) (isType ws (fieldA ws (fieldB ws r))) (omega arith) (omega arith) in
+          let same = q .1 in
+          let l = length-more in
+          let k = kind-cell ws r (p .cell) in
+          record { answer = sym (listed-is ∙ q .0); next = λ _. marked-here _ (omega arith) }

@@ -18,67 +18,62 @@ use Rattle.records.proofs.Uses.{marked-start}
 
 -- The start
 
-passed-start : (ws ms ls la be : List ℕ) (n : ℕ) → Blank ms ls la be n → Passed ws ms ls la be 0
-passed-start ws ms ls la be n p = record {
+passed-start : (ws ms la be : List ℕ) (n : ℕ) → Blank ms la be n → Passed ws ms la be 0
+passed-start ws ms la be n p = record {
   lower = λ r h. absurd (omega arith);
-  marks = unfold used in marked-start ms (p .marks);
-  lengths = record { marked = λ c h e. absurd (omega arith) };
+  marks = unfold used in marked-start ws ms;
   chains = record { last = unfold latest in p .last; before = λ j h t. absurd (omega arith) };
 }
 
 -- From record to record
 
 -- the records below r are passed and their k equations noted, with as many marks as before
-pub record Going (ws ms₀ ls₀ la₀ be₀ es₀ ms ls la be es : List ℕ) (n r k : ℕ) : Type 0 where
-  pub asks : BrokenAsks ws ms₀ ls₀ la₀ be₀ es₀ n
-  pub passed : Passed ws ms ls la be r
+pub record Going (ws ms₀ la₀ be₀ es₀ ms la be es : List ℕ) (n r k : ℕ) : Type 0 where
+  pub asks : BrokenAsks ws ms₀ la₀ be₀ es₀ n
+  pub passed : Passed ws ms la be r
   pub left : broken ws n ≡ ahead n (λ i. not (keeps ws i)) r
   pub noted : Noted ws es k r
   pub within : r ≤ n
   pub marks : length ms ≡ length ms₀
-  pub lengths : length ls ≡ length ls₀
   pub last : length la ≡ length la₀
   pub before : length be ≡ length be₀
   pub equations : length es ≡ length es₀
 
-pub going-start : (ws ms ls la be es : List ℕ) (n : ℕ) → BrokenAsks ws ms ls la be es n → Going ws ms ls la be es ms ls la be es n 0 0
-going-start ws ms ls la be es n p = record {
+pub going-start : (ws ms la be es : List ℕ) (n : ℕ) → BrokenAsks ws ms la be es n → Going ws ms la be es ms la be es n 0 0
+going-start ws ms la be es n p = record {
   asks = p;
-  passed = passed-start ws ms ls la be n (p .blank);
+  passed = passed-start ws ms la be n (p .blank);
   left = unfold broken in ahead-start n (λ r. not (keeps ws r));
   noted = noted-start ws es;
   within = omega arith;
   marks = refl;
-  lengths = refl;
   last = refl;
   before = refl;
   equations = refl;
 }
 
-module _ (ws ms₀ ls₀ la₀ be₀ es₀ ms ls la be es : List ℕ) (n r k : ℕ) (g : Going ws ms₀ ls₀ la₀ be₀ es₀ ms ls la be es n r k) where
+module _ (ws ms₀ la₀ be₀ es₀ ms la be es : List ℕ) (n r k : ℕ) (g : Going ws ms₀ la₀ be₀ es₀ ms la be es n r k) where
   pub going-end : n ≤ r → BrokenSays ws es n (Sound k)
   going-end h = let w = g .within in let e : r ≡ n = omega arith in record {
     found = sym (g .left ∙ ahead-end n _ r h);
     noted = λ j z. let q : k ≡ j = cc in rw (← q, ← e) (g .noted);
   }
 
-  pub going-asks : r < n → RecordAsks ws ms ls la be r
+  pub going-asks : r < n → RecordAsks ws ms la be r
   going-asks h =
       let p = g .asks in
       let i = p .inside in
       let f = p .few in
       let a = p .blank .room .marks in
-      let b = p .blank .room .lengths in
       let c = p .blank .room .last in
       let d = p .blank .room .before in
       let a′ = g .marks in
-      let b′ = g .lengths in
       let c′ = g .last in
       let d′ = g .before in
       record {
         inside = omega arith;
         few = omega arith;
-        room = record { marks = omega arith; lengths = omega arith; last = omega arith; before = omega arith };
+        room = record { marks = omega arith; last = omega arith; before = omega arith };
         passed = g .passed;
       }
 
@@ -90,23 +85,22 @@ module _ (ws ms₀ ls₀ la₀ be₀ es₀ ms ls la be es : List ℕ) (n r k : �
       let a′ = g .equations in
       record { inside = omega arith; low = omega arith; room = omega arith; lower = g .noted }
 
-  module _ (h : r < n) (ms₁ ls₁ la₁ be₁ : List ℕ) (b : Bool) (s : RecordSays ws ms₁ ls₁ la₁ be₁ r b) where
+  module _ (h : r < n) (ms₁ la₁ be₁ : List ℕ) (b : Bool) (s : RecordSays ws ms₁ la₁ be₁ r b) where
     pub going-stop : not b ≡ true → BrokenSays ws es n (Broken r)
     going-stop t = record {
       found = sym (g .left ∙ ahead-stop n _ r h (rw (← s .answer) t));
       noted = λ j z. absurd (let q : _≡_ {A = ℕ} 0 1 = cc in omega arith);
     }
 
-    pub going-on : not b ≡ false → length ms₁ ≡ length ms → length ls₁ ≡ length ls → length la₁ ≡ length la → length be₁ ≡ length be
-        → (es₁ : List ℕ) (k₁ : ℕ) → Noted ws es₁ k₁ (r + 1) → length es₁ ≡ length es → Going ws ms₀ ls₀ la₀ be₀ es₀ ms₁ ls₁ la₁ be₁ es₁ n (r + 1) k₁
-    going-on t lm ll la be es₁ k₁ m le = record {
+    pub going-on : not b ≡ false → length ms₁ ≡ length ms → length la₁ ≡ length la → length be₁ ≡ length be
+        → (es₁ : List ℕ) (k₁ : ℕ) → Noted ws es₁ k₁ (r + 1) → length es₁ ≡ length es → Going ws ms₀ la₀ be₀ es₀ ms₁ la₁ be₁ es₁ n (r + 1) k₁
+    going-on t lm la be es₁ k₁ m le = record {
       asks = g .asks;
       passed = s .next (not-false _ t);
       left = g .left ∙ ahead-on n _ r h (rw (← s .answer) t);
       noted = m;
       within = omega arith;
       marks = lm ∙ g .marks;
-      lengths = ll ∙ g .lengths;
       last = la ∙ g .last;
       before = be ∙ g .before;
       equations = le ∙ g .equations;

@@ -1,35 +1,63 @@
 -- References are the first: what is marked is what the lower records refer to.
-use Prim.Native.Nat.{ℕ, _<_, _≤_}
+use Prim.Native.Nat.{ℕ, _+_, _<_, _≤_}
 use mathlib.Core.Path.{_≡_, refl, sym, ap, _∙_}
 use mathlib.Core.Bool.{Bool, true, false, not}
-use mathlib.Core.List.{List, [], _∷_}
+use mathlib.Core.List.{List, [], _∷_, _++_}
 use native.Mathlib.Omega.{arith}
 use native.Mathlib.Decide.{ℕ-discrete}
-use borrow.Author.Tests.{not-true, ltb-true, eq-eqb, ne-eqb, lt-leb, le-leb}
+use native.Mathlib.Numerals.{add-one}
+use borrow.Author.Tests.{not-true, ltb-true, leb-true, eqb-true, eq-eqb, ne-eqb, lt-leb, le-leb}
 use lib.ListN.{length, getD, set, length-set}
 use lib.Seq.{getD-set-same, getD-set-other}
-use lib.Dec.{eqb, ltb, leb}
+use lib.Dec.{eqb, ltb}
 use Rattle.rules.specs.Lists.{both, either, any, among, those}
-use Rattle.rules.specs.Words.{NONE, tag}
-use Rattle.rules.specs.Records.{listOf, fits, first-cell, reference}
-use Rattle.laws.specs.Tests.{false-true, both-true}
-use Rattle.fields.specs.declared.Field.{Field}
-use Rattle.fields.specs.declared.Field.the-variants.{Nil, Any, Small, OfType, OfBase, OfConstant, OfHole, OfTerm, Types, Terms, Element, Rest}
-use Rattle.fields.specs.Kinds.{field}
-use Rattle.records.specs.Marks.{refersTo, counts, Marked, fresh, one, reference-of, MarkSays}
+use Rattle.rules.specs.Words.{NONE, CE, tag, fieldA, fieldB, fieldC, has, isType, isTerm}
+use Rattle.rules.specs.Records.{rest, shape, listOf, fits, first-cell, reference, uses}
+use Rattle.laws.specs.Tests.{false-true, both-true, both-no}
+use Rattle.records.specs.declared.Field.{Field}
+use Rattle.records.specs.declared.Field.the-variants.{Nil, Any, Small, OfType, OfBase, OfConstant, OfHole, OfTerm, Types, Terms, Element, Rest}
+use Rattle.records.specs.Kinds.{field, refersTo}
+use Rattle.records.specs.Marks.{counts, kind, mark, Marked, used, fresh, one, reference-of, referred}
+use Rattle.records.proofs.Joined.{among-append, those-append}
 
 -- Records of tag 5 to 9
 
-module _ (ws : List ℕ) (x k : ℕ) (e : k ≡ tag ws x) where
-  pub counts-low : k < 5 → false ≡ counts ws x
+module _ (ws : List ℕ) (x : ℕ) where
+  uncounted : tag ws x < 5 → counts ws x ≡ false
   unfolding counts both
-  counts-low h = rw (← e, lt-leb 5 k h)
+  uncounted h = rw (lt-leb 5 (tag ws x) h)
 
-  pub counts-high : 5 ≤ k → leb k 9 ≡ counts ws x
+  counted : 5 ≤ tag ws x → tag ws x ≤ 9 → counts ws x ≡ true
   unfolding counts both
-  counts-high h = rw (← e, le-leb 5 k h)
+  counted a b = rw (le-leb 5 (tag ws x) a, le-leb (tag ws x) 9 b)
+
+  pub type-counts : isType ws x ≡ true → counts ws x ≡ false
+  unfolding isType
+  type-counts e = let h = leb-true (tag ws x) 2 (both-true _ _ e .1) in uncounted (omega arith)
+
+  pub tag-counts : (t : ℕ) → t < 5 → has ws x t ≡ true → counts ws x ≡ false
+  unfolding has
+  tag-counts t h e = let q = eqb-true (tag ws x) t e in uncounted (omega arith)
+
+  pub term-counts : isTerm ws x ≡ true → counts ws x ≡ true
+  unfolding isTerm
+  term-counts e =
+      let a = leb-true 6 (tag ws x) (both-true _ _ e .0) in
+      let b = leb-true (tag ws x) 9 (both-true _ _ e .1) in
+      counted (omega arith) (omega arith)
+
+  pub cell-counts : tag ws x ≡ CE → counts ws x ≡ true
+  cell-counts e = counted (omega arith) (omega arith)
 
 -- What one field refers to
+
+among-here : (u : List ℕ) (x y : ℕ) → y ≡ x → among (x ∷ u) y ≡ true
+unfolding among any either
+among-here u x y e = rw (eq-eqb x y (sym e))
+
+among-other : (u : List ℕ) (x y : ℕ) → (y ≡ x → ⊥) → among (x ∷ u) y ≡ among u y
+unfolding among any either
+among-other u x y n = rw (ne-eqb x y (λ e. n (sym e)))
 
 cell-is : (ws : List ℕ) (x : ℕ) → those (counts ws) (first-cell x) ≡ one (both (not (eqb x NONE)) (counts ws x)) x
 unfolding those first-cell one both
@@ -53,6 +81,34 @@ one-is ws Types x = cell-is ws x
 one-is ws Terms x = cell-is ws x
 one-is ws Element x = refl
 one-is ws Rest x = cell-is ws x
+
+-- a cell refers to its rest
+module _ (ws : List ℕ) (x : ℕ) (z : x ≡ NONE → ⊥) (c : tag ws x ≡ CE) where
+  cell-one : those (counts ws) (first-cell x) ≡ x ∷ []
+  unfolding one both
+  cell-one = cell-is ws x ∙ rw (ne-eqb _ _ z, cell-counts ws x c)
+
+  cell-among : (ps qs : List ℕ) → among (those (counts ws) (ps ++ (first-cell x ++ qs))) x ≡ true
+  cell-among ps qs =
+      rw (
+        those-append (counts ws) ps (first-cell x ++ qs),
+        those-append (counts ws) (first-cell x) qs,
+        cell-one,
+        among-append (those (counts ws) ps) ((x ∷ []) ++ those (counts ws) qs) x,
+        among-here (those (counts ws) qs) x x refl,
+      )
+      (last (among (those (counts ws) ps) x))
+    where
+      last : (b : Bool) → either b true ≡ true
+      last true = unfold either in refl
+      last false = unfold either in refl
+
+pub rest-used : (ws : List ℕ) (r : ℕ) → shape ws r .1 ≡ rest → (fieldB ws r ≡ NONE → ⊥) → tag ws (fieldB ws r) ≡ CE → among (used ws (r + 1)) (fieldB ws r) ≡ true
+unfolding used uses reference counts either
+rest-used ws r e z c = rw (add-one r, among-append (uses ws r) (used ws r) (fieldB ws r), here)
+  where
+    here : among (uses ws r) (fieldB ws r) ≡ true
+    here = rw e (cell-among ws (fieldB ws r) z c (reference (shape ws r .0) (fieldA ws r)) (reference (shape ws r .2) (fieldC ws r)))
 
 module _ (ws : List ℕ) (r x : ℕ) where
   first-lower : (b : Bool) → both (ltb x r) b ≡ true → x < r
@@ -79,63 +135,62 @@ module _ (ws : List ℕ) (r x : ℕ) where
 
 -- Marks
 
-pub marked-start : (ms : List ℕ) → ((x : ℕ) → x < length ms → getD ms x 0 ≡ 0) → Marked ms []
+module _ (ws u : List ℕ) (x : ℕ) where
+  pub mark-used : both (counts ws x) (among u x) ≡ true → mark ws u x ≡ kind ws x + 128
+  unfolding mark
+  mark-used e = rw (e, mark)
+
+  pub mark-unused : both (counts ws x) (among u x) ≡ false → mark ws u x ≡ kind ws x
+  unfolding mark
+  mark-unused e = rw (e, mark)
+
+mark-same : (ws u v : List ℕ) (x : ℕ) → among u x ≡ among v x → mark ws u x ≡ mark ws v x
+unfolding mark
+mark-same ws u v x e = rw (e, mark)
+
+pub marked-start : (ws ms : List ℕ) → Marked ws ms [] 0
 unfolding among any
-marked-start ms h = record { marked = h }
+marked-start ws ms = record { room = omega arith; marked = λ x h. absurd (omega arith); low = λ x h. refl }
 
-pub marked-same : (ms u v : List ℕ) → ((x : ℕ) → among u x ≡ among v x) → Marked ms u → Marked ms v
-marked-same ms u v h p = record { marked = λ x n. p .marked x n ∙ rw (h x) }
+pub marked-same : (ws ms u v : List ℕ) (r : ℕ) → ((x : ℕ) → among u x ≡ among v x) → Marked ws ms u r → Marked ws ms v r
+marked-same ws ms u v r h p = record { room = p .room; marked = λ x n. p .marked x n ∙ mark-same ws u v x (h x); low = λ x n. sym (h x) ∙ p .low x n }
 
-among-here : (u : List ℕ) (x y : ℕ) → y ≡ x → among (x ∷ u) y ≡ true
-unfolding among any either
-among-here u x y e = rw (eq-eqb x y (sym e))
+-- the mark of r itself
+module _ (ws ms u : List ℕ) (r : ℕ) (p : Marked ws ms u r) where
+  pub marked-own : (v : ℕ) → Marked ws (set ms r v) u r
+  marked-own v = record {
+    room = simp length-set (p .room);
+    marked = λ x h. getD-set-other ms r x v 0 (λ e. omega arith) ∙ p .marked x h;
+    low = p .low;
+  }
 
-among-other : (u : List ℕ) (x y : ℕ) → (y ≡ x → ⊥) → among (x ∷ u) y ≡ among u y
-unfolding among any either
-among-other u x y n = rw (ne-eqb x y (λ e. n (sym e)))
+  pub marked-next : r < length ms → getD ms r 0 ≡ kind ws r → Marked ws ms u (r + 1)
+  marked-next l e = record { room = omega arith; marked = λ x h. go x (ℕ-discrete x r) h; low = λ x h. p .low x (omega arith) }
+    where
+      go : (x : ℕ) → Dec (x ≡ r) → x < r + 1 → getD ms x 0 ≡ mark ws u x
+      go x (yes q) h = ap (λ i. getD ms i 0) q ∙ e ∙ ap (kind ws) (sym q) ∙ sym (mark-unused ws u x (rw (p .low x (omega arith)) (both-no (counts ws x))))
+      go x (no q) h = p .marked x (omega arith)
 
-marked-new : (ms u : List ℕ) (x : ℕ) → x < length ms → Marked ms u → Marked (set ms x 1) (x ∷ u)
-marked-new ms u x h p = record { marked = λ y l. go y (simp length-set at l) (ℕ-discrete y x) }
+-- a record that counts is referred to
+marked-new : (ws ms u : List ℕ) (r x : ℕ) → x < r → counts ws x ≡ true → among u x ≡ false → Marked ws ms u r → Marked ws (set ms x (getD ms x 0 + 128)) (x ∷ u) r
+unfolding both
+marked-new ws ms u r x h c n p = record {
+  room = simp length-set (p .room);
+  marked = λ y l. go y (ℕ-discrete y x) l;
+  low = λ y l. among-other u x y (λ e. omega arith) ∙ p .low y l;
+}
   where
-    go : (y : ℕ) → y < length ms → Dec (y ≡ x) → getD (set ms x 1) y 0 ≡ elim (among (x ∷ u) y) [ true ↦ 1 | false ↦ 0 ]
-    go y l (yes e) = ap (λ k. getD (set ms x 1) k 0) e ∙ getD-set-same ms x 1 0 h ∙ rw (among-here u x y e)
-    go y l (no e) = getD-set-other ms x y 1 0 e ∙ p .marked y l ∙ rw (among-other u x y e)
+    own : getD ms x 0 ≡ kind ws x
+    own = p .marked x h ∙ mark-unused ws u x (rw (c, n))
 
-module _ (ws ms : List ℕ) (f : Field) (x : ℕ) where
-  nothing : both (refersTo f x) (counts ws x) ≡ false → MarkSays ws ms ms f x true
-  unfolding one fresh
-  nothing e = record { answer = λ u m. rw e; next = λ u m _. rw e m }
+    go : (y : ℕ) → Dec (y ≡ x) → y < r → getD (set ms x (getD ms x 0 + 128)) y 0 ≡ mark ws (x ∷ u) y
+    go y (yes e) l =
+        let m = p .room in
+        rw e (getD-set-same ms x (getD ms x 0 + 128) 0 (omega arith) ∙ rw own (sym (mark-used ws (x ∷ u) x (rw (c, among-here u x x refl)))))
+    go y (no e) l = getD-set-other ms x y (getD ms x 0 + 128) 0 e ∙ p .marked y l ∙ sym (mark-same ws (x ∷ u) u y (among-other u x y e))
 
-  pub mark-plain : refersTo f x ≡ false → MarkSays ws ms ms f x true
-  mark-plain e = nothing (unfold both in rw e)
-
-  module _ (e : refersTo f x ≡ true) where
-    pub mark-uncounted : counts ws x ≡ false → MarkSays ws ms ms f x true
-    mark-uncounted c = nothing (unfold both in rw (e, c))
-
-    module _ (c : counts ws x ≡ true) (h : x < length ms) where
-      something : both (refersTo f x) (counts ws x) ≡ true
-      unfolding both
-      something = rw (e, c)
-
-      seen : (u : List ℕ) → Marked ms u → getD ms x 0 ≡ 1 → among u x ≡ true
-      seen u m q = go (among u x) refl
-        where
-          go : (b : Bool) → among u x ≡ b → among u x ≡ true
-          go true k = k
-          go false k = let z : _≡_ {A = ℕ} 1 0 = sym q ∙ m .marked x h ∙ rw k in absurd (omega arith)
-
-      unseen : (u : List ℕ) → Marked ms u → (getD ms x 0 ≡ 1 → ⊥) → among u x ≡ false
-      unseen u m z = go (among u x) refl
-        where
-          go : (b : Bool) → among u x ≡ b → among u x ≡ false
-          go true k = absurd (z (m .marked x h ∙ rw k))
-          go false k = k
-
-      pub mark-old : getD ms x 0 ≡ 1 → MarkSays ws ms ms f x false
-      unfolding one fresh both
-      mark-old q = record { answer = λ u m. let k = seen u m q in rw (something, k); next = λ u m w. absurd (false-true w) }
-
-      pub mark-new : (getD ms x 0 ≡ 1 → ⊥) → MarkSays ws ms (set ms x 1) f x true
-      unfolding one fresh both
-      mark-new z = record { answer = λ u m. let k = unseen u m z in rw (something, k); next = λ u m _. rw something (marked-new ms u x h m) }
+-- the marks where x is referred to, if it counts
+pub marked-referred : (ws ms u : List ℕ) (r x : ℕ) (d : Bool) → (d ≡ true → (x < r) × (counts ws x ≡ true)) → fresh u (one d x) ≡ true → Marked ws ms u r → Marked ws (referred d ms x) (one d x ++ u) r
+unfolding referred one fresh
+marked-referred ws ms u r x false h f p = p
+marked-referred ws ms u r x true h f p = let q = h refl in marked-new ws ms u r x (q .0) (q .1) (not-true _ (both-true _ _ f .0)) p

@@ -10,16 +10,16 @@ use Rattle.rules.specs.Words.{tag, fieldA, fieldB, isType}
 use Rattle.rules.specs.Records.{new-type}
 use Rattle.table.specs.declared.Record.{Record}
 
--- record j has the words of x
+-- record j has the tag and the a of x
 unfoldable pub equals : List ℕ → ℕ → Record → Bool
-equals ws j x = both (eqb (tag ws j) (x .tag)) (both (eqb (fieldA ws j) (x .a)) (eqb (fieldB ws j) (x .b)))
+equals ws j x = both (eqb (tag ws j) (x .tag)) (eqb (fieldA ws j) (x .a))
 
 -- one more than the number of the latest type below r whose b is b; 0 where there is none
 unfoldable pub latest : List ℕ → ℕ → ℕ → ℕ
 latest ws b zero = 0
 latest ws b (suc r) = elim (both (isType ws r) (eqb (fieldB ws r) b)) [ true ↦ suc r | false ↦ latest ws b r ]
 
--- the chains of the types below r
+-- the chains of the types below r; all types of a chain have its b
 pub record Chains (la be ws : List ℕ) (r : ℕ) : Type 0 where
   pub last : (b : ℕ) → b < length la → getD la b 0 ≡ latest ws b r
   pub before : (j : ℕ) → j < r → isType ws j ≡ true → getD be j 0 ≡ latest ws (fieldB ws j) j

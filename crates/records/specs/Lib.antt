@@ -1,4 +1,5 @@
-pub mod Marks  -- what the marks of lists and references mean
+pub mod Kinds  -- the kinds of fields
+pub mod Marks  -- what the marks of records mean
 pub mod Chains  -- types in chains by their b
 pub mod Rows  -- what is known of a record before and after it is looked at
 pub mod Noting  -- the equations are noted

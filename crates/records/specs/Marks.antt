@@ -1,60 +1,42 @@
--- What the marks of lists and references mean.
-use Prim.Native.Nat.{ℕ, zero, suc, _+_, _*_, _<_}
+-- What the marks of records mean: of what kind a record is, how long its list is, and whether it is referred to.
+use Prim.Native.Nat.{ℕ, zero, suc, _+_, _<_, _≤_}
 use mathlib.Core.Path.{_≡_}
 use mathlib.Core.Bool.{Bool, true, false, not}
 use mathlib.Core.List.{List, [], _∷_, _++_}
-use lib.ListN.{length, getD}
-use lib.Dec.{eqb, leb}
+use lib.ListN.{length, getD, set}
+use lib.Dec.{eqb, ltb, leb}
 use Rattle.rules.specs.Lists.{both, either, among}
-use Rattle.rules.specs.Words.{NONE, CE, tag, cells}
+use Rattle.rules.specs.Words.{NONE, CE, tag, fieldA, has, isType, cells}
 use Rattle.rules.specs.Records.{shaped, listed, uses}
-use Rattle.fields.specs.declared.Field.{Field}
-use Rattle.fields.specs.declared.Field.the-variants.{Nil, Any, Small, OfType, OfBase, OfConstant, OfHole, OfTerm, Types, Terms, Element, Rest}
-use Rattle.fields.specs.Kinds.{typeTag, termTag, Above}
+use Rattle.records.specs.declared.Field.{Field}
+use Rattle.records.specs.declared.Field.the-variants.{Nil, Any, Small, OfType, OfBase, OfConstant, OfHole, OfTerm, Types, Terms, Element, Rest}
+use Rattle.records.specs.Kinds.{Above, refersTo}
 
--- both types or both terms
-unfoldable pub alikeTags : ℕ → ℕ → Bool
-alikeTags k j = either (both (typeTag k) (typeTag j)) (both (termTag k) (termTag j))
-
--- such a field refers to a record where it holds x; NONE is no record
-unfoldable pub refersTo : Field → ℕ → Bool
-refersTo Nil x = false
-refersTo Any x = false
-refersTo Small x = false
-refersTo OfType x = true
-refersTo OfBase x = true
-refersTo OfConstant x = true
-refersTo OfHole x = true
-refersTo OfTerm x = true
-refersTo Types x = not (eqb x NONE)
-refersTo Terms x = not (eqb x NONE)
-refersTo Element x = true
-refersTo Rest x = not (eqb x NONE)
+-- The marks of a table
 
 -- records of tag 5 to 9 are referred to at most once
 unfoldable pub counts : List ℕ → ℕ → Bool
 counts ws x = both (leb 5 (tag ws x)) (leb (tag ws x) 9)
 
--- the length of each list that begins below r is marked at its first cell
-pub record Lengths (ls ws : List ℕ) (r : ℕ) : Type 0 where
-  pub marked : (c : ℕ) → c < r → tag ws c ≡ CE → getD ls c 0 ≡ length (cells 17 ws c)
+-- what a list's cells are counted from: 16 for types, 32 for terms
+unfoldable pub base : Bool → ℕ
+base types = elim types [ true ↦ 16 | false ↦ 32 ]
 
--- record r is a cell with fields as the table says, and the lengths below it are marked
-pub record ListAsks (ws ls : List ℕ) (r : ℕ) : Type 0 where
-  pub above : Above ws r
-  pub cell : tag ws r ≡ CE
-  pub so : shaped ws r ≡ true
-  pub room : r < length ls
-  pub known : Lengths ls ws r
+-- a record's mark while nothing refers to it: its tag, and for a cell the number of cells of the list that begins there
+unfoldable pub kind : List ℕ → ℕ → ℕ
+kind ws x = elim (has ws x CE) [ true ↦ base (isType ws (fieldA ws x)) + length (cells 17 ws x) | false ↦ tag ws x ]
 
--- the answer for record r, and the lengths up to it
-pub record ListSays (ws ls : List ℕ) (r : ℕ) (b : Bool) : Type 0 where
-  pub answer : b ≡ listed ws r
-  pub next : b ≡ true → Lengths ls ws (r + 1)
+-- a record's mark where those of u are referred to: 128 more if it is one of them
+unfoldable pub mark : List ℕ → List ℕ → ℕ → ℕ
+mark ws u x = elim (both (counts ws x) (among u x)) [ true ↦ kind ws x + 128 | false ↦ kind ws x ]
 
--- those of u have mark 1, all others 0
-pub record Marked (ms u : List ℕ) : Type 0 where
-  pub marked : (x : ℕ) → x < length ms → getD ms x 0 ≡ elim (among u x) [ true ↦ 1 | false ↦ 0 ]
+-- the records below r are marked, where those of u are referred to, which are below r too
+pub record Marked (ws ms u : List ℕ) (r : ℕ) : Type 0 where
+  pub room : r ≤ length ms
+  pub marked : (x : ℕ) → x < r → getD ms x 0 ≡ mark ws u x
+  pub low : (x : ℕ) → r ≤ x → among u x ≡ false
+
+-- What is referred to
 
 -- the records of tag 5 to 9 that the records below r refer to
 unfoldable pub used : List ℕ → ℕ → List ℕ
@@ -73,12 +55,85 @@ one counted x = elim counted [ true ↦ x ∷ [] | false ↦ [] ]
 abbrev pub reference-of : List ℕ → Field → ℕ → List ℕ
 reference-of ws f x = one (both (refersTo f x) (counts ws x)) x
 
--- what a field refers to is a record with a mark
-pub record MarkAsks (ws ms : List ℕ) (f : Field) (x : ℕ) : Type 0 where
-  pub inside : refersTo f x ≡ true → 4 * x + 3 < length ws
-  pub low : refersTo f x ≡ true → x < length ms
+-- A field by the marks
 
--- the answer for one field, and the marks with it, whatever was marked before
-pub record MarkSays (ws ms ms₁ : List ℕ) (f : Field) (x : ℕ) (b : Bool) : Type 0 where
-  pub answer : (u : List ℕ) → Marked ms u → b ≡ fresh u (reference-of ws f x)
-  pub next : (u : List ℕ) → Marked ms u → b ≡ true → Marked ms₁ (reference-of ws f x ++ u)
+-- from low to high
+unfoldable pub within : ℕ → ℕ → ℕ → Bool
+within low high k = both (leb low k) (leb k high)
+
+-- the mark of record x if it is below r; otherwise 0, which is no mark
+unfoldable pub markBelow : List ℕ → ℕ → ℕ → ℕ
+markBelow ms r x = elim (ltb x r) [ true ↦ getD ms x 0 | false ↦ 0 ]
+
+abbrev pub lies : List ℕ → ℕ → ℕ → ℕ → ℕ → Bool
+lies ms r low high x = within low high (markBelow ms r x)
+
+-- a field of record r may hold x, as the marks say
+unfoldable pub holds : List ℕ → ℕ → Field → ℕ → Bool
+holds ms r Nil x = eqb x 0
+holds ms r Any x = true
+holds ms r Small x = ltb x 4096
+holds ms r OfType x = lies ms r 1 2 x
+holds ms r OfBase x = lies ms r 1 1 x
+holds ms r OfConstant x = lies ms r 3 3 x
+holds ms r OfHole x = lies ms r 4 4 x
+holds ms r OfTerm x = lies ms r 6 9 x
+holds ms r Types x = either (eqb x NONE) (lies ms r 17 32 x)
+holds ms r Terms x = either (eqb x NONE) (lies ms r 33 48 x)
+holds ms r Element x = either (lies ms r 1 2 x) (lies ms r 6 9 x)
+holds ms r Rest x = either (eqb x NONE) (lies ms r 17 48 x)
+
+-- and what it refers to counts
+unfoldable pub once : List ℕ → ℕ → Field → ℕ → Bool
+once ms r Nil x = false
+once ms r Any x = false
+once ms r Small x = false
+once ms r OfType x = false
+once ms r OfBase x = false
+once ms r OfConstant x = false
+once ms r OfHole x = false
+once ms r OfTerm x = true
+once ms r Types x = not (eqb x NONE)
+once ms r Terms x = not (eqb x NONE)
+once ms r Element x = not (lies ms r 1 2 x)
+once ms r Rest x = not (eqb x NONE)
+
+-- the marks where record x is referred to, if it counts
+unfoldable pub referred : Bool → List ℕ → ℕ → List ℕ
+referred counted ms x = elim counted [ true ↦ set ms x (getD ms x 0 + 128) | false ↦ ms ]
+
+-- each record below r has a mark, and a mark from low to high is that of a record that nothing refers to
+pub record ReferAsks (ms : List ℕ) (r low high : ℕ) : Type 0 where
+  pub room : r ≤ length ms
+  pub some : 0 < low
+  pub free : high < 128
+
+-- the answer for a reference to record x, which is marked
+pub record ReferSays (ms ms₁ : List ℕ) (r low high x : ℕ) (b : Bool) : Type 0 where
+  pub answer : b ≡ lies ms r low high x
+  pub next : b ≡ true → ms₁ ≡ referred true ms x
+
+-- the same for a list; NONE is no record
+pub record BeginSays (ms ms₁ : List ℕ) (r low high x : ℕ) (b : Bool) : Type 0 where
+  pub answer : b ≡ either (eqb x NONE) (lies ms r low high x)
+  pub next : b ≡ true → ms₁ ≡ referred (not (eqb x NONE)) ms x
+
+-- the answer for a field that holds x, and the marks with it
+pub record FieldSays (ms ms₁ : List ℕ) (r : ℕ) (f : Field) (x : ℕ) (b : Bool) : Type 0 where
+  pub answer : b ≡ holds ms r f x
+  pub next : b ≡ true → ms₁ ≡ referred (once ms r f x) ms x
+
+-- Lists
+
+-- record r is a cell with fields as the table says, and what it and the lower records refer to is marked
+pub record ListAsks (ws ms : List ℕ) (r : ℕ) : Type 0 where
+  pub above : Above ws r
+  pub cell : tag ws r ≡ CE
+  pub so : shaped ws r ≡ true
+  pub room : r < length ms
+  pub known : Marked ws ms (used ws (r + 1)) r
+
+-- the answer for record r, and the marks up to it
+pub record ListSays (ws ms : List ℕ) (r : ℕ) (b : Bool) : Type 0 where
+  pub answer : b ≡ listed ws r
+  pub next : b ≡ true → Marked ws ms (used ws (r + 1)) (r + 1)

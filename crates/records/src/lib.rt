@@ -1,20 +1,16 @@
-// Records (5): the lowest record that breaks a rule of the records section, in one pass with marks.
-use fields::Field;
-use fields::fits;
-use fields::term_tag;
-use fields::type_tag;
-use table::CE;
+// Records (5): the lowest record that breaks a rule of the records section, in one pass with a mark for each record. A mark tells the kind of a record that
+// keeps the rules: its tag; for a cell of types 16 and of terms 32 more than the cells of its list; and 128 more once it is referred to, if that may be only once.
 use table::EQ;
-use table::HA;
 use table::NONE;
 use table::Record;
 use table::read;
 ghost use mathlib.Core.Path.{_≡_};
-ghost use Prim.Native.Nat.{_+_, _*_, _<_};
+ghost use Prim.Native.Nat.{_+_, _*_, _<_, _≤_};
 ghost use lib.ListN.{length};
-ghost use Rattle.records.specs.Marks.{alikeTags, refersTo, counts, ListAsks, ListSays, MarkAsks, MarkSays};
+ghost use lib.Dec.{leb};
+ghost use Rattle.records.specs.Marks.{base, markBelow, lies, ReferAsks, ReferSays, BeginSays, FieldSays, ListAsks, ListSays};
 ghost use Rattle.records.specs.Chains.{equals, TypeAsks, TypeSays};
-ghost use Rattle.records.specs.Rows.{FieldAsks, FieldSays, RowAsks, RowSays, RecordAsks, RecordSays, BrokenAsks};
+ghost use Rattle.records.specs.Rows.{RowAsks, RowSays, RecordAsks, RecordSays, BrokenAsks};
 ghost use Rattle.records.specs.Noting.{NoteAsks, Noted, BrokenSays};
 
 // What one pass over the records says: the lowest broken one, or how many equations there are.
@@ -23,46 +19,23 @@ pub enum Pass {
     Sound(usize),
 }
 
-// Both are tags of types, or both of terms.
-fn alike_tags(k: u32, j: u32) -> bool
-    ensures { λ b. ⌜ b ≡ alikeTags k j ⌝ }
-{
-    if type_tag(k) {
-        return type_tag(j);
-    }
-    if term_tag(k) {
-        return term_tag(j);
-    }
-    false
+// What a field can hold: the kinds of the records section's table.
+enum Field {
+    Nil,
+    Any,
+    Small,
+    OfType,
+    OfBase,
+    OfConstant,
+    OfHole,
+    OfTerm,
+    Types,
+    Terms,
+    Element,
+    Rest,
 }
 
-// A cell begins a list that is not mixed and has at most 16 cells; its length is marked.
-fn listed(table: &[u32], lengths: &mut [u8], r: u32) -> bool
-    requires { ⌜ ListAsks (now table) (now lengths) r ⌝ }
-    ensures { λ b. ⌜ ListSays (now (table .entry)) (now (lengths .exit)) r b ⌝ }
-{
-    let x = read(table, r);
-    let at = r as usize;
-    if x.b == NONE {
-        lengths[at] = 1;
-        return true;
-    }
-    let y = read(table, x.b);
-    let here = read(table, x.a);
-    let next = read(table, y.a);
-    if !alike_tags(here.tag, next.tag) {
-        return false;
-    }
-    let rest = x.b as usize;
-    let count = lengths[rest];
-    if count < 16 {
-        lengths[at] = count + 1;
-        return true;
-    }
-    false
-}
-
-// Two type records are equal.
+// Two types of one chain, so with equal b, are equal.
 fn equal(table: &[u32], j: u32, x: Record) -> bool
     requires { ⌜ 4 * j + 3 < length (now table) ⌝ }
     ensures { λ b. ⌜ b ≡ equals (now (table .entry)) j x ⌝ }
@@ -71,10 +44,7 @@ fn equal(table: &[u32], j: u32, x: Record) -> bool
     if y.tag != x.tag {
         return false;
     }
-    if y.a != x.a {
-        return false;
-    }
-    y.b == x.b
+    y.a == x.a
 }
 
 // No earlier type record equals this one, which joins its chain. Equal types have equal b, so the types with this b are compared, from the latest
@@ -99,91 +69,139 @@ fn new_type(table: &[u32], last: &mut [u16], before: &mut [u16], r: u32) -> bool
     true
 }
 
-// A field that holds x refers to a record; NONE is no record.
-fn refers(f: Field, x: u32) -> bool
-    ensures { λ b. ⌜ b ≡ refersTo f x ⌝ }
+// The mark of a lower record, or 0.
+fn mark_below(marks: &[u8], r: u32, x: u32) -> u8
+    requires { ⌜ r ≤ length (now marks) ⌝ }
+    ensures { λ m. ⌜ m ≡ markBelow (now (marks .entry)) r x ⌝ }
 {
-    match f {
-        Field::Nil => false,
-        Field::Any => false,
-        Field::Small => false,
-        Field::OfType => true,
-        Field::OfBase => true,
-        Field::OfConstant => true,
-        Field::OfHole => true,
-        Field::OfTerm => true,
-        Field::Types => x != NONE,
-        Field::Terms => x != NONE,
-        Field::Element => true,
-        Field::Rest => x != NONE,
+    if x < r {
+        let at = x as usize;
+        marks[at]
+    } else {
+        0
     }
 }
 
-// A record is of tag 5 to 9.
-fn counted(table: &[u32], x: u32) -> bool
-    requires { ⌜ 4 * x + 3 < length (now table) ⌝ }
-    ensures { λ b. ⌜ b ≡ counts (now (table .entry)) x ⌝ }
+// The mark of a lower record is from low to high.
+fn lies(marks: &[u8], r: u32, low: u8, high: u8, x: u32) -> bool
+    requires { ⌜ r ≤ length (now marks) ⌝ }
+    ensures { λ b. ⌜ b ≡ lies (now (marks .entry)) r low high x ⌝ }
 {
-    let y = read(table, x);
-    if y.tag < CE { false } else { y.tag <= HA }
+    let m = mark_below(marks, r, x);
+    if m < low { false } else { m <= high }
 }
 
-// What a field refers to is marked; false if it is marked already.
-fn mark(table: &[u32], marks: &mut [u8], f: Field, x: u32) -> bool
-    requires { ⌜ MarkAsks (now table) (now marks) f x ⌝ }
-    ensures { λ b. ⌜ MarkSays (now (table .entry)) (now (marks .entry)) (now (marks .exit)) f x b ⌝ }
+// The mark of a lower record is from low to high, so that nothing refers to it yet; now something does.
+fn refers(marks: &mut [u8], r: u32, low: u8, high: u8, x: u32) -> bool
+    requires { ⌜ ReferAsks (now marks) r low high ⌝ }
+    ensures { λ b. ⌜ ReferSays (now (marks .entry)) (now (marks .exit)) r low high x b ⌝ }
 {
-    if !refers(f, x) {
-        return true;
-    }
-    if !counted(table, x) {
-        return true;
-    }
-    let at = x as usize;
-    if marks[at] == 1 {
+    let m = mark_below(marks, r, x);
+    if m < low {
         return false;
     }
-    marks[at] = 1;
+    if high < m {
+        return false;
+    }
+    let at = x as usize;
+    marks[at] = m + 128;
     true
 }
 
-// A field of record r holds what it can, and its reference is no second one.
-fn field_keeps(table: &[u32], marks: &mut [u8], r: u32, f: Field, x: u32) -> bool
-    requires { ⌜ FieldAsks (now table) (now marks) r ⌝ }
-    ensures { λ b. ⌜ FieldSays (now (table .entry)) (now (marks .entry)) (now (marks .exit)) r f x b ⌝ }
+// A list is empty, or a reference to its first cell.
+fn begins(marks: &mut [u8], r: u32, low: u8, high: u8, x: u32) -> bool
+    requires { ⌜ ReferAsks (now marks) r low high ⌝ }
+    ensures { λ b. ⌜ BeginSays (now (marks .entry)) (now (marks .exit)) r low high x b ⌝ }
 {
-    if !fits(table, r, f, x) {
-        return false;
+    if x == NONE {
+        return true;
     }
-    mark(table, marks, f, x)
+    refers(marks, r, low, high, x)
 }
 
-// The fields a, b and c of a record, in order.
+// A field of record r holds what it can, and its reference is no second one.
+fn field_keeps(marks: &mut [u8], r: u32, f: Field, x: u32) -> bool
+    requires { ⌜ r ≤ length (now marks) ⌝ }
+    ensures { λ b. ⌜ FieldSays (now (marks .entry)) (now (marks .exit)) r f x b ⌝ }
+{
+    match f {
+        Field::Nil => x == 0,
+        Field::Any => true,
+        Field::Small => x < 4096,
+        Field::OfType => lies(marks, r, 1, 2, x),
+        Field::OfBase => lies(marks, r, 1, 1, x),
+        Field::OfConstant => lies(marks, r, 3, 3, x),
+        Field::OfHole => lies(marks, r, 4, 4, x),
+        Field::OfTerm => refers(marks, r, 6, 9, x),
+        Field::Types => begins(marks, r, 17, 32, x),
+        Field::Terms => begins(marks, r, 33, 48, x),
+        Field::Element => lies(marks, r, 1, 2, x) || refers(marks, r, 6, 9, x),
+        Field::Rest => begins(marks, r, 17, 48, x),
+    }
+}
+
+// The fields a, b and c of a record, in order; its mark is its tag then.
 fn row_keeps(table: &[u32], marks: &mut [u8], r: u32, a: Field, b: Field, c: Field) -> bool
     requires { ⌜ RowAsks (now table) (now marks) r a b c ⌝ }
     ensures { λ k. ⌜ RowSays (now (table .entry)) (now (marks .exit)) r k ⌝ }
 {
     let x = read(table, r);
-    if !field_keeps(table, marks, r, a, x.a) {
+    if !field_keeps(marks, r, a, x.a) {
         return false;
     }
-    if !field_keeps(table, marks, r, b, x.b) {
+    if !field_keeps(marks, r, b, x.b) {
         return false;
     }
-    field_keeps(table, marks, r, c, x.c)
+    if !field_keeps(marks, r, c, x.c) {
+        return false;
+    }
+    let at = r as usize;
+    marks[at] = x.tag as u8;
+    true
+}
+
+// What the cells of a list are counted from, by the mark of its element: 16 for types, 32 for terms.
+fn base(element: u8) -> u8
+    ensures { λ b. ⌜ b ≡ base (leb element 2) ⌝ }
+{
+    if element <= 2 { 16 } else { 32 }
+}
+
+// A cell begins a list that is not mixed and has at most 16 cells; its length is marked.
+fn listed(table: &[u32], marks: &mut [u8], r: u32) -> bool
+    requires { ⌜ ListAsks (now table) (now marks) r ⌝ }
+    ensures { λ b. ⌜ ListSays (now (table .entry)) (now (marks .exit)) r b ⌝ }
+{
+    let x = read(table, r);
+    let at = r as usize;
+    let element = x.a as usize;
+    let start = base(marks[element]);
+    if x.b == NONE {
+        marks[at] = start + 1;
+        return true;
+    }
+    let rest = x.b as usize;
+    let count = marks[rest] - 128;
+    if count <= start {
+        return false;
+    }
+    if count < start + 16 {
+        marks[at] = count + 1;
+        return true;
+    }
+    false
 }
 
 // A record keeps the rules; the arms are the records section's table, and an unknown tag has no row.
 fn record_keeps(
     table: &[u32],
     marks: &mut [u8],
-    lengths: &mut [u8],
     last: &mut [u16],
     before: &mut [u16],
     r: u32,
 ) -> bool
-    requires { ⌜ RecordAsks (now table) (now marks) (now lengths) (now last) (now before) r ⌝ }
-    ensures { λ b. ⌜ RecordSays (now (table .entry)) (now (marks .exit)) (now (lengths .exit)) (now (last .exit)) (now (before .exit)) r b ⌝ }
+    requires { ⌜ RecordAsks (now table) (now marks) (now last) (now before) r ⌝ }
+    ensures { λ b. ⌜ RecordSays (now (table .entry)) (now (marks .exit)) (now (last .exit)) (now (before .exit)) r b ⌝ }
 {
     let x = read(table, r);
     let k = x.tag;
@@ -195,7 +213,7 @@ fn record_keeps(
         3 => row_keeps(table, marks, r, Field::OfType, Field::Nil, Field::Nil),
         4 => row_keeps(table, marks, r, Field::Types, Field::OfBase, Field::Nil),
         5 => row_keeps(table, marks, r, Field::Element, Field::Rest, Field::Nil)
-            && listed(table, lengths, r),
+            && listed(table, marks, r),
         6 => row_keeps(table, marks, r, Field::OfTerm, Field::Nil, Field::Nil),
         7 => row_keeps(table, marks, r, Field::OfConstant, Field::Terms, Field::Nil),
         8 => row_keeps(table, marks, r, Field::Small, Field::Terms, Field::Nil),
@@ -222,19 +240,18 @@ fn note(table: &[u32], equations: &mut [u16], count: usize, r: u32) -> usize
 pub fn broken(
     table: &[u32],
     marks: &mut [u8],
-    lengths: &mut [u8],
     last: &mut [u16],
     before: &mut [u16],
     equations: &mut [u16],
     n: u32,
 ) -> Pass
-    requires { ⌜ BrokenAsks (now table) (now marks) (now lengths) (now last) (now before) (now equations) n ⌝ }
+    requires { ⌜ BrokenAsks (now table) (now marks) (now last) (now before) (now equations) n ⌝ }
     ensures { λ x. ⌜ BrokenSays (now (table .entry)) (now (equations .exit)) n x ⌝ }
 {
     let mut r = 0;
     let mut count = 0;
     while r < n {
-        if !record_keeps(table, marks, lengths, last, before, r) {
+        if !record_keeps(table, marks, last, before, r) {
             return Pass::Broken(r);
         }
         count = note(table, equations, count, r);

@@ -156,7 +156,7 @@ module _ (ws es : List ℕ) (n : ℕ) (x : Pass) (e : BrokenSays ws es n x) wher
         held = λ j w. absurd (let q : _≡_ {A = ℕ} 0 1 = cc in omega arith);
       }
 
-  module _ (ms ls la be es₀ : List ℕ) (p : BrokenAsks ws ms ls la be es₀ n) (l : length es ≡ length es₀) (k : ℕ) (z : x ≡ Sound k) where
+  module _ (ms la be es₀ : List ℕ) (p : BrokenAsks ws ms la be es₀ n) (l : length es ≡ length es₀) (k : ℕ) (z : x ≡ Sound k) where
     none : broken ws n ≡ Nowhere
     none = sym (e .found) ∙ ap foundOf z
 
@@ -184,11 +184,11 @@ module _ (k : ℕ) (small : k ≤ 4096) (ws : List ℕ) (n : ℕ) (le : n ≤ k)
   long : n ≤ length (replicate {A = ℕ} k 0)
   long = simp length-replicate le
 
-  room : Room (replicate k 0) (replicate k 0) (replicate k 0) (replicate k 0) n
-  room = record { marks = long; lengths = long; last = long; before = long }
+  room : Room (replicate k 0) (replicate k 0) (replicate k 0) n
+  room = record { marks = long; last = long; before = long }
 
-  pub zeros-ask : 4 * n ≤ length ws → BrokenAsks ws (replicate k 0) (replicate k 0) (replicate k 0) (replicate k 0) (replicate k 0) n
-  zeros-ask inside = record { inside = inside; few = omega arith; blank = record { room = room; marks = zeros; last = zeros }; equations = long }
+  pub zeros-ask : 4 * n ≤ length ws → BrokenAsks ws (replicate k 0) (replicate k 0) (replicate k 0) (replicate k 0) n
+  zeros-ask inside = record { inside = inside; few = omega arith; blank = record { room = room; last = zeros }; equations = long }
     where
       zeros : (x : ℕ) → x < length (replicate {A = ℕ} k 0) → getD {A = ℕ} (replicate k 0) x 0 ≡ 0
       zeros x l = getD-replicate {A = ℕ} k x 0 0 (simp length-replicate at l)

@@ -101,17 +101,16 @@ fn refuse_asked(
 pub fn refuse(
     table: &[u32],
     marks: &mut [u8],
-    lengths: &mut [u8],
     last: &mut [u16],
     before: &mut [u16],
     equations: &mut [u16],
     n: u32,
     asked: Asked,
 ) -> Refusal
-    requires { ⌜ BrokenAsks (now table) (now marks) (now lengths) (now last) (now before) (now equations) n ⌝ }
+    requires { ⌜ BrokenAsks (now table) (now marks) (now last) (now before) (now equations) n ⌝ }
     ensures { λ r. ⌜ Settled (now (table .entry)) (now (equations .exit)) n (asks asked (now (table .entry)) n) r ⌝ }
 {
-    match broken(table, marks, lengths, last, before, equations, n) {
+    match broken(table, marks, last, before, equations, n) {
         Pass::Broken(place) => Refusal::Refused { answer: 5, place },
         Pass::Sound(count) => refuse_asked(table, last, equations, count, n, asked),
     }

@@ -23,11 +23,11 @@ pub record Inside (k : ℕ) (ws ss : List ℕ) (n : ℕ) : Type 0 where
   pub within : outside ws ss n ≡ false
 
 -- and arrays that serve for the checks
-pub record Checking (ws ss ms ls la be es : List ℕ) (n : ℕ) : Type 0 where
-  pub asks : BrokenAsks ws ms ls la be es n
+pub record Checking (ws ss ms la be es : List ℕ) (n : ℕ) : Type 0 where
+  pub asks : BrokenAsks ws ms la be es n
   pub within : outside ws ss n ≡ false
 
-pub zeros-serve : (k : ℕ) → k ≤ 4096 → (ws ss : List ℕ) (n : ℕ) → Inside k ws ss n → Checking ws ss (replicate k 0) (replicate k 0) (replicate k 0) (replicate k 0) (replicate k 0) n
+pub zeros-serve : (k : ℕ) → k ≤ 4096 → (ws ss : List ℕ) (n : ℕ) → Inside k ws ss n → Checking ws ss (replicate k 0) (replicate k 0) (replicate k 0) (replicate k 0) n
 zeros-serve k small ws ss n h = record { asks = zeros-ask k small ws n (h .few) (in-table ws ss n (h .within) .1); within = h .within }
 
 -- 4
@@ -62,7 +62,7 @@ module _ (ws ss qs es : List ℕ) (n : ℕ) (x : Refusal) where
   left-admitted k l z h = rw z h
 
 -- 5, 10, 6 and 7
-module _ (b : Bool) (ws ss ms ls la be es₀ es : List ℕ) (n : ℕ) (x : Refusal) (h : Checking ws ss ms ls la be es₀ n) (s : Settled ws es n b x) where
+module _ (b : Bool) (ws ss ms la be es₀ es : List ℕ) (n : ℕ) (x : Refusal) (h : Checking ws ss ms la be es₀ n) (s : Settled ws es n b x) where
   says : refusal b ws ss n ≡ refusalOf x
   says = inside-sound ws ss n (h .within) b (refusalOf x) (s .says)
 

@@ -163,16 +163,15 @@ fn leave_checked(
     solutions: &mut [u32],
     queue: &mut [u32],
     marks: &mut [u8],
-    lengths: &mut [u8],
     last: &mut [u16],
     before: &mut [u16],
     equations: &mut [u16],
     asked: Asked,
 ) -> Reply
-    requires { ⌜ Checking (now table) (now solutions) (now marks) (now lengths) (now last) (now before) (now equations) n ⌝ }
+    requires { ⌜ Checking (now table) (now solutions) (now marks) (now last) (now before) (now equations) n ⌝ }
     ensures { λ r. ⌜ leaves (refusal (asks asked (now (table .entry)) n) (now (table .entry)) (now (solutions .entry)) n) (now (table .entry)) (now (solutions .entry)) (now (queue .entry)) n ≡ record { table = now (table .exit); solutions = now (solutions .exit); queue = now (queue .exit); said = r } ⌝ }
 {
-    let refusal = refuse(table, marks, lengths, last, before, equations, n, asked);
+    let refusal = refuse(table, marks, last, before, equations, n, asked);
     settle(table, n, solutions, queue, equations, refusal)
 }
 
@@ -188,7 +187,6 @@ fn leave_small(
     ensures { λ r. ⌜ leaves (refusal (asks asked (now (table .entry)) n) (now (table .entry)) (now (solutions .entry)) n) (now (table .entry)) (now (solutions .entry)) (now (queue .entry)) n ≡ record { table = now (table .exit); solutions = now (solutions .exit); queue = now (queue .exit); said = r } ⌝ }
 {
     let mut marks = [0u8; 64];
-    let mut lengths = [0u8; 64];
     let mut last = [0u16; 64];
     let mut before = [0u16; 64];
     let mut equations = [0u16; 64];
@@ -198,7 +196,6 @@ fn leave_small(
         solutions,
         queue,
         &mut marks,
-        &mut lengths,
         &mut last,
         &mut before,
         &mut equations,
@@ -218,7 +215,6 @@ fn leave_middle(
     ensures { λ r. ⌜ leaves (refusal (asks asked (now (table .entry)) n) (now (table .entry)) (now (solutions .entry)) n) (now (table .entry)) (now (solutions .entry)) (now (queue .entry)) n ≡ record { table = now (table .exit); solutions = now (solutions .exit); queue = now (queue .exit); said = r } ⌝ }
 {
     let mut marks = [0u8; 512];
-    let mut lengths = [0u8; 512];
     let mut last = [0u16; 512];
     let mut before = [0u16; 512];
     let mut equations = [0u16; 512];
@@ -228,7 +224,6 @@ fn leave_middle(
         solutions,
         queue,
         &mut marks,
-        &mut lengths,
         &mut last,
         &mut before,
         &mut equations,
@@ -248,7 +243,6 @@ fn leave_large(
     ensures { λ r. ⌜ leaves (refusal (asks asked (now (table .entry)) n) (now (table .entry)) (now (solutions .entry)) n) (now (table .entry)) (now (solutions .entry)) (now (queue .entry)) n ≡ record { table = now (table .exit); solutions = now (solutions .exit); queue = now (queue .exit); said = r } ⌝ }
 {
     let mut marks = [0u8; 4096];
-    let mut lengths = [0u8; 4096];
     let mut last = [0u16; 4096];
     let mut before = [0u16; 4096];
     let mut equations = [0u16; 4096];
@@ -258,7 +252,6 @@ fn leave_large(
         solutions,
         queue,
         &mut marks,
-        &mut lengths,
         &mut last,
         &mut before,
         &mut equations,

@@ -14,6 +14,5 @@ check-records-spec =
     (λ c. search needs)
     (λ c. search needs)
     (λ c. search needs)
-    (λ c. search needs)
     (λ c κs. search (zeros-ask 4096 (omega arith)))
     (λ c. search solving-sound))

@@ -7,11 +7,11 @@ use Rattle.records.proofs.broken.Statement.{statement}
 use Rattle.records.proofs.broken.Tie as tie
 
 abbrev Inv-loop : tie.InvT-loop
-Inv-loop table marks₀ lengths₀ last₀ before₀ equations₀ n r₀ count₀ marks lengths last before equations r count =
-    Going table marks₀ lengths₀ last₀ before₀ equations₀ marks lengths last before equations n r count
+Inv-loop table marks₀ last₀ before₀ equations₀ n r₀ count₀ marks last before equations r count =
+    Going table marks₀ last₀ before₀ equations₀ marks last before equations n r count
 
 abbrev μ-loop : tie.MeasureT-loop
-μ-loop table marks₀ lengths₀ last₀ before₀ equations₀ n r₀ count₀ marks lengths last before equations r count = n - r
+μ-loop table marks₀ last₀ before₀ equations₀ n r₀ count₀ marks last before equations r count = n - r
 
 pub broken-spec : {M : Type 1} → statement M
 broken-spec =
@@ -25,13 +25,11 @@ broken-spec =
     (λ c. search needs)
     (λ c. search needs)
     (λ c. search needs)
-    (λ c. search needs)
     (λ c. search going-stop)
     (λ c κs. search going-notes)
     (λ c. search needs)
     (λ c. omega arith)
     (λ c. search going-on)
-    (λ c. search needs)
     (λ c. search needs)
     (λ c. search needs)
     (λ c. search needs)

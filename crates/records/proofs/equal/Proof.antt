@@ -1,6 +1,6 @@
 -- `records::equal` meets its contract.
 use mathlib.Core.Path.{sym, _∙_}
-use Rattle.records.proofs.Earlier.{equals-tag, equals-a, equals-b}
+use Rattle.records.proofs.Earlier.{equals-tag, equals-a}
 use borrow.Author.Needs.{needs}
 use Rattle.records.proofs.equal.Statement.{statement}
 use Rattle.records.proofs.equal.Tie as tie
@@ -9,10 +9,7 @@ returns : tie.Need-returns
 returns c = equals-tag _ _ _ (λ e. c .if1 .taken (c .before .before .before .read .ensures .tag-is ∙ e))
 
 returns-2 : tie.Need-returns-2
-returns-2 c = equals-a _ _ _ (sym (c .before .before .before .before .before .before .read .ensures .tag-is) ∙ c .before .before .before .if1 .left) (λ e. c .if2 .taken (c .before .before .before .before .before .before .read .ensures .a-is ∙ e))
-
-returns-3 : tie.Need-returns-3
-returns-3 c = equals-b _ _ _ (sym (c .before .before .before .before .before .before .before .before .read .ensures .tag-is) ∙ c .before .before .before .before .before .if1 .left) (sym (c .before .before .before .before .before .before .before .before .read .ensures .a-is) ∙ c .before .before .if2 .left) _ (c .before .before .before .before .before .before .before .before .read .ensures .b-is)
+returns-2 c = equals-a _ _ _ (sym (c .before .before .before .before .before .read .ensures .tag-is) ∙ c .before .before .if1 .left) _ (c .before .before .before .before .before .read .ensures .a-is)
 
 pub equal-spec : {M : Type 1} → statement M
-equal-spec = tie.close (tie.spec (λ c κs. search needs) returns returns-2 returns-3)
+equal-spec = tie.close (tie.spec (λ c κs. search needs) returns returns-2)

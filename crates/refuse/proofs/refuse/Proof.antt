@@ -6,8 +6,8 @@ use Rattle.refuse.proofs.refuse.Tie as tie
 
 asked-requires : tie.Need-refuse-asked-requires
 asked-requires c κs =
-    let passed = c .before .before .before .before .before .before .before .before .before .before .before .before .before .before .before .broken in
-    asked-asks _ _ _ _ (passed .ensures) _ _ _ _ _ (c .before .before .before .before .before .before .before .before .before .before .before .before .before .before .before .before .before .before .before .before .before .before .before .before .before .before .before .pre) (passed .kept .1 .1 .1 .1 .1 .0) _ (c .before .before .before .count .given .1) _ (passed .kept .1 .1 .1 .0)
+    let passed = c .before .before .before .before .before .before .before .before .before .before .before .before .before .broken in
+    asked-asks _ _ _ _ (passed .ensures) _ _ _ _ (c .before .before .before .before .before .before .before .before .before .before .before .before .before .before .before .before .before .before .before .before .before .before .before .pre) (passed .kept .1 .1 .1 .1 .0) _ (c .before .before .before .count .given .1) _ (passed .kept .1 .1 .0)
 
 pub refuse-spec : {M : Type 1} → statement M
 refuse-spec =
@@ -21,9 +21,7 @@ refuse-spec =
     (λ c. search needs)
     (λ c. search needs)
     (λ c. search needs)
-    (λ c. search needs)
     (λ c. search broken-at)
-    (λ c. search needs)
     (λ c. search needs)
     (λ c. search needs)
     (λ c. search needs)

@@ -13,8 +13,7 @@ leave-checked-spec =
     tie.close
     (tie.spec
     (λ c κs. search needs)
-    (λ c κs. settles _ _ _ _ _ _ _ _ _ _ _ (c .before .before .before .before .before .before .before .before .before .before .before .before .before .before .before .before .before .before .before .before .before .before .before .before .before .before .before .before .before .pre) (c .before .before .before .before .before .before .before .before .before .before .before .before .before .before .refuse .ensures))
-    (λ c. search needs)
+    (λ c κs. settles _ _ _ _ _ _ _ _ _ _ (c .before .before .before .before .before .before .before .before .before .before .before .before .before .before .before .before .before .before .before .before .before .before .before .before .before .pre) (c .before .before .before .before .before .before .before .before .before .before .before .before .refuse .ensures))
     (λ c. search needs)
     (λ c. search needs)
     (λ c. search needs)

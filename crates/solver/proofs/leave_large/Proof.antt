@@ -16,7 +16,6 @@ leave-large-spec =
     (λ c. search needs)
     (λ c. search needs)
     (λ c. search needs)
-    (λ c. search needs)
     (λ c κs. search (zeros-serve 4096 (omega arith)))
     (λ c. search needs)
     (λ c. search needs)

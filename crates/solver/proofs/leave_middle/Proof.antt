@@ -16,7 +16,6 @@ leave-middle-spec =
     (λ c. search needs)
     (λ c. search needs)
     (λ c. search needs)
-    (λ c. search needs)
     (λ c κs. search (zeros-serve 512 (omega arith)))
     (λ c. search needs)
     (λ c. search needs)

@@ -16,7 +16,6 @@ leave-small-spec =
     (λ c. search needs)
     (λ c. search needs)
     (λ c. search needs)
-    (λ c. search needs)
     (λ c κs. search (zeros-serve 64 (omega arith)))
     (λ c. search needs)
     (λ c. search needs)

@@ -1,1 +1,0 @@
-pub mod Kinds  -- the kinds of fields, and tests of tags
