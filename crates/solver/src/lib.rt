@@ -176,7 +176,7 @@ fn leave_checked(
 }
 
 // At most 64 records.
-fn leave_small(
+fn leave_64(
     table: &mut [u32],
     n: u32,
     solutions: &mut [u32],
@@ -204,7 +204,7 @@ fn leave_small(
 }
 
 // At most 512 records.
-fn leave_middle(
+fn leave_512(
     table: &mut [u32],
     n: u32,
     solutions: &mut [u32],
@@ -231,8 +231,36 @@ fn leave_middle(
     )
 }
 
+// At most 2,048 records.
+fn leave_2048(
+    table: &mut [u32],
+    n: u32,
+    solutions: &mut [u32],
+    queue: &mut [u32],
+    asked: Asked,
+) -> Reply
+    requires { ⌜ Inside 2048 (now table) (now solutions) n ⌝ }
+    ensures { λ r. ⌜ leaves (refusal (asks asked (now (table .entry)) n) (now (table .entry)) (now (solutions .entry)) n) (now (table .entry)) (now (solutions .entry)) (now (queue .entry)) n ≡ record { table = now (table .exit); solutions = now (solutions .exit); queue = now (queue .exit); said = r } ⌝ }
+{
+    let mut marks = [0u8; 2048];
+    let mut last = [0u16; 2048];
+    let mut before = [0u16; 2048];
+    let mut equations = [0u16; 2048];
+    leave_checked(
+        table,
+        n,
+        solutions,
+        queue,
+        &mut marks,
+        &mut last,
+        &mut before,
+        &mut equations,
+        asked,
+    )
+}
+
 // At most 4,096 records.
-fn leave_large(
+fn leave_4096(
     table: &mut [u32],
     n: u32,
     solutions: &mut [u32],
@@ -259,7 +287,7 @@ fn leave_large(
     )
 }
 
-// Answer 4 writes nothing; otherwise arrays of one of three sizes: small problems clear small arrays.
+// Answer 4 writes nothing; otherwise arrays of one of four sizes: small problems clear small arrays.
 fn leave(
     table: &mut [u32],
     n: usize,
@@ -277,12 +305,15 @@ fn leave(
         };
     }
     if n <= 64 {
-        return leave_small(table, n as u32, solutions, queue, asked);
+        return leave_64(table, n as u32, solutions, queue, asked);
     }
     if n <= 512 {
-        return leave_middle(table, n as u32, solutions, queue, asked);
+        return leave_512(table, n as u32, solutions, queue, asked);
     }
-    leave_large(table, n as u32, solutions, queue, asked)
+    if n <= 2048 {
+        return leave_2048(table, n as u32, solutions, queue, asked);
+    }
+    leave_4096(table, n as u32, solutions, queue, asked)
 }
 
 // Solving the first n records of a table, with solution and queue words.

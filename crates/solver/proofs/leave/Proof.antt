@@ -6,9 +6,10 @@ use Rattle.solver.proofs.leave.Tie as tie
 use Rattle.solver.proofs.leave.Reads as reads
 use Rattle.solver.proofs.leave.Lts as lts
 use Rattle.refuse.proofs.out_of_room.Reads as out-of-room-reads
-use Rattle.solver.proofs.leave_small.Reads as leave-small-reads
-use Rattle.solver.proofs.leave_middle.Reads as leave-middle-reads
-use Rattle.solver.proofs.leave_large.Reads as leave-large-reads
+use Rattle.solver.proofs.leave_64.Reads as leave-64-reads
+use Rattle.solver.proofs.leave_512.Reads as leave-512-reads
+use Rattle.solver.proofs.leave_2048.Reads as leave-2048-reads
+use Rattle.solver.proofs.leave_4096.Reads as leave-4096-reads
 
 pub leave-spec : {M : Type 1} → statement M
 leave-spec =
@@ -31,7 +32,13 @@ leave-spec =
     (λ c. search needs)
     (λ c. search needs)
     (λ c. search inside-fits)
-    (λ c κs. inside-most _ _ _ _ (c .before .before .before .before .before .before .out-of-room .ensures) (c .before .before .before .before .before .if1 .left))
+    (λ c κs. inside-few _ _ _ _ (c .before .before .before .before .before .before .before .out-of-room .ensures) (c .before .before .before .before .before .before .if1 .left) 2048 (c .before .before .before .if4 .taken))
+    (λ c. search needs)
+    (λ c. search needs)
+    (λ c. search needs)
+    (λ c. search needs)
+    (λ c. search inside-fits)
+    (λ c κs. inside-most _ _ _ _ (c .before .before .before .before .before .before .before .out-of-room .ensures) (c .before .before .before .before .before .before .if1 .left))
     (λ c. search needs)
     (λ c. search needs)
     (λ c. search needs)
