@@ -8,30 +8,31 @@ use lib.ListN.{length, drop}
 use lib.Dec.{ltb}
 use borrow.Author.Tests.{lt-ltb, le-ltb, eq-eqb, ne-eqb}
 use Rattle.rules.specs.declared.Found.{Found}
+use Rattle.rules.specs.declared.Reply.{Reply}
 use Rattle.rules.specs.declared.Found.the-variants.{At, Nowhere}
 use Rattle.rules.specs.Lists.{either, lowest}
 use Rattle.rules.specs.Answers.{reply, records}
 use Rattle.rules.specs.File.{marked, isKnown, fileWords, read}
 
 module _ (bs ws : List ℕ) where
-  -- reading leaves such words and says answer, place and used
-  abbrev pub Ends : List ℕ → ℕ → ℕ → ℕ → Type 0
-  Ends ws₁ answer place used = read bs ws ≡ record { table = ws₁; said = reply answer place used }
+  -- reading leaves such words and says so
+  abbrev pub Ends : List ℕ → Reply → Type 0
+  Ends ws₁ said = read bs ws ≡ record { table = ws₁; said = said }
 
-  pub too-long : 28672 < length bs → Ends ws 12 0 0
+  pub too-long : (x : Reply) → reply 12 0 0 ≡ x → 28672 < length bs → Ends ws x
   unfolding read either
-  too-long h = rw (lt-ltb _ _ h, read)
+  too-long x e h = rw (lt-ltb _ _ h, read, e)
 
-  pub uneven : length bs ≤ 28672 → (length bs % 14 ≡ 0 → ⊥) → Ends ws 12 0 0
+  pub uneven : (x : Reply) → reply 12 0 0 ≡ x → length bs ≤ 28672 → (length bs % 14 ≡ 0 → ⊥) → Ends ws x
   unfolding read either
-  uneven g h = rw (le-ltb _ _ g, ne-eqb _ _ h, read)
+  uneven x e g h = rw (le-ltb _ _ g, ne-eqb _ _ h, read, e)
 
   module _ (short : length bs ≤ 28672) (whole : length bs % 14 ≡ 0) where
-    pub too-small : length ws / 4 < length bs / 14 → Ends ws 4 0 0
+    pub too-small : (x : Reply) → reply 4 0 0 ≡ x → length ws / 4 < length bs / 14 → Ends ws x
     unfolding read either records
-    too-small h =
+    too-small x e h =
         let m : min (length ws / 4) 4096 < length bs / 14 = omega arith in
-        rw (le-ltb _ _ short, eq-eqb _ _ whole, lt-ltb _ _ m, read)
+        rw (le-ltb _ _ short, eq-eqb _ _ whole, lt-ltb _ _ m, read, e)
 
     module _ (room : length bs / 14 ≤ length ws / 4) where
       -- a search among the file's records
@@ -42,11 +43,11 @@ module _ (bs ws : List ℕ) where
       unfolding records
       roomy = le-ltb _ _ (let m : length bs / 14 ≤ min (length ws / 4) 4096 = omega arith in m)
 
-      pub unknown-mark : (f : Found) (r : ℕ) → Search f → f ≡ At r → Ends ws 13 r 0
+      pub unknown-mark : (f : Found) (r : ℕ) (x : Reply) → reply 13 r 0 ≡ x → Search f → f ≡ At r → Ends ws x
       unfolding read either
-      unknown-mark f r e p = rw (le-ltb _ _ short, eq-eqb _ _ whole, roomy, e, p, read)
+      unknown-mark f r x q e p = rw (le-ltb _ _ short, eq-eqb _ _ whole, roomy, e, p, read, q)
 
       pub all-read : (f : Found) (ws₁ : List ℕ) → Search f → f ≡ Nowhere → ws₁ ≡ fileWords bs 0 (length bs / 14) ++ drop (4 * (length bs / 14)) ws
-          → Ends ws₁ 0 0 (length bs / 14)
+          → Ends ws₁ (reply 0 0 (length bs / 14))
       unfolding read either
       all-read f ws₁ e p w = rw (w, le-ltb _ _ short, eq-eqb _ _ whole, roomy, e, p, read)

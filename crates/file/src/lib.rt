@@ -7,6 +7,7 @@ ghost use mathlib.Core.List.{_++_};
 ghost use Prim.Native.Nat.{_+_, _*_, _<_, _≤_};
 ghost use lib.ListN.{length, drop};
 ghost use Rattle.rules.specs.Lists.{lowest};
+ghost use Rattle.rules.specs.Answers.{reply};
 ghost use Rattle.rules.specs.File.{marked, word, isKnown, tagWord, fileWords, read as readOf};
 ghost use Rattle.file.specs.Marks.{tagOf};
 ghost use Rattle.file.specs.Writing.{stored, Fitting};
@@ -110,39 +111,34 @@ pub fn write_records(file: &[u8], table: &mut [u32], n: u32)
     }
 }
 
+// The reply to a file that is refused.
+fn refused(answer: u32, place: u32) -> Reply
+    ensures { λ r. ⌜ reply answer place 0 ≡ r ⌝ }
+{
+    Reply {
+        answer,
+        place,
+        used: 0,
+    }
+}
+
 // A file is read into a table: 12, then 4, then 13; successful reading writes only the file's n records.
 pub fn read(file: &[u8], table: &mut [u32]) -> Reply
     ensures { λ r. ⌜ readOf (now (file .entry)) (now (table .entry)) ≡ record { table = now (table .exit); said = r } ⌝ }
 {
     let len = file.len();
     if 28672 < len {
-        return Reply {
-            answer: 12,
-            place: 0,
-            used: 0,
-        };
+        return refused(12, 0);
     }
     if len % 14 != 0 {
-        return Reply {
-            answer: 12,
-            place: 0,
-            used: 0,
-        };
+        return refused(12, 0);
     }
     let n = (len / 14) as u32;
     if table.len() / 4 < n as usize {
-        return Reply {
-            answer: 4,
-            place: 0,
-            used: 0,
-        };
+        return refused(4, 0);
     }
     match lowest_unknown(file, n) {
-        Found::At(r) => Reply {
-            answer: 13,
-            place: r,
-            used: 0,
-        },
+        Found::At(r) => refused(13, r),
         Found::Nowhere => {
             write_records(file, table, n);
             Reply {

@@ -8,12 +8,16 @@ pub read-spec : {M : Type 1} → statement M
 read-spec =
     tie.close
     (tie.spec
+    (λ c. search needs)
     (λ c. search too-long)
+    (λ c. search needs)
     (λ c. search uneven)
+    (λ c. search needs)
     (λ c. search needs)
     (λ c. search needs)
     (λ c. search too-small)
     (λ c κs. search needs)
+    (λ c. search needs)
     (λ c. search needs)
     (λ c. search needs)
     (λ c κs. search needs)
