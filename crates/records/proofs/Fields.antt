@@ -107,9 +107,10 @@ module _ (ws ms : List ℕ) (r : ℕ) (a b c : Field) (p : RowAsks ws ms r a b c
         unfolding both
         row-end v l =
             let h = p .room in
+            let m = field-next ws ms₂ (B ++ (A ++ U)) r after-b (p .above .lower) few ms₃ c (x .c) k hk (not-false k v) in
             record {
               answer = sym (row-parts ∙ rw (is-a, not-false i t, is-b, not-false j u, is-c, not-false k v));
-              next = λ _. marked-own ws ms₃ _ r (marked-same ws ms₃ _ _ r together (field-next ws ms₂ (B ++ (A ++ U)) r after-b (p .above .lower) few ms₃ c (x .c) k hk (not-false k v))) (x .tag);
+              next = λ _. marked-own ws ms₃ _ r (marked-same ws ms₃ _ _ r together m) (x .tag);
               own = λ _. getD-set-same ms₃ r (x .tag) 0 (omega arith) ∙ w .tag-is;
             }
           where

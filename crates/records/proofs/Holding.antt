@@ -139,4 +139,7 @@ module _ (ws ms u : List ℕ) (r : ℕ) (p : Marked ws ms u r) where
       pub field-next : b ≡ true → Marked ws ms₁ (reference-of ws f x ++ u) r
       field-next t =
           let q = both-true (fits ws r (field f) x) _ (sym field-answer ∙ t) in
-          rw (s .next t, once-is f x (q .0)) (marked-referred ws ms u r x (both (refersTo f x) (counts ws x)) (λ d. let w = both-true (refersTo f x) (counts ws x) d in (lower ws r x f (q .0) (w .0), w .1)) (q .1) p)
+          rw (s .next t, once-is f x (q .0)) (marked-referred ws ms u r x (both (refersTo f x) (counts ws x)) (counted (q .0)) (q .1) p)
+        where
+          counted : fits ws r (field f) x ≡ true → both (refersTo f x) (counts ws x) ≡ true → (x < r) × (counts ws x ≡ true)
+          counted e d = let w = both-true (refersTo f x) (counts ws x) d in (lower ws r x f e (w .0), w .1)

@@ -12,16 +12,16 @@ use mir.Val.{Fits}
 use lib.ListN.{length, getD, set, length-set}
 use lib.Seq.{getD-set-same}
 use lib.Dec.{eqb, ltb, leb}
-use Rattle.rules.specs.Lists.{both, either, among}
+use Rattle.rules.specs.Lists.{both, either}
 use Rattle.rules.specs.Words.{NONE, CE, tag, fieldA, fieldB, has, isType, isTerm, cells}
 use Rattle.rules.specs.Records.{element, rest, shapes, shape, fits, shaped, alike, listed}
 use Rattle.laws.specs.Tests.{false-true, both-true, either-true}
 use Rattle.laws.specs.Lists.{cells-none, cells-more}
 use Rattle.table.specs.declared.Record.{Record}
 use Rattle.table.specs.Reading.{IsRecord}
-use Rattle.records.specs.Marks.{counts, base, kind, mark, Marked, used, ListAsks, ListSays}
+use Rattle.records.specs.Marks.{base, kind, mark, Marked, used, ListAsks, ListSays}
 use Rattle.records.proofs.Ranges.{within-true, kind-cell, kind-type, kind-term, other-kind, shaped-so, short, some}
-use Rattle.records.proofs.Uses.{type-counts, cell-counts, rest-used, mark-used, mark-unused, marked-own, marked-next}
+use Rattle.records.proofs.Uses.{type-counts, cell-counts, rest-used, mark-used, mark-unused, mark-least, marked-own, marked-next}
 
 -- Lengths
 
@@ -66,6 +66,20 @@ module _ (k : ℕ) (one : 1 ≤ k) (few : k ≤ 16) where
   mark-between false true a b = absurd (omega arith)
   mark-between false false a b = (le-leb (suc k) 16 (omega arith), refl)
 
+-- the mark of a type is at most 2, and that of a term is more
+type-mark : (ws u : List ℕ) (x : ℕ) → isTerm ws x ≡ not (isType ws x) → leb (mark ws u x) 2 ≡ isType ws x
+type-mark ws u x e = go (isType ws x) refl
+  where
+    go : (t : Bool) → isType ws x ≡ t → leb (mark ws u x) 2 ≡ isType ws x
+    go true q =
+        let m = mark-unused ws u x (unfold both in rw (type-counts ws x q)) in
+        let k = within-true 1 2 (kind ws x) (kind-type ws x ∙ q) .1 in
+        le-leb (mark ws u x) 2 (omega arith) ∙ sym q
+    go false q =
+        let m = mark-least ws u x in
+        let k = within-true 6 9 (kind ws x) (kind-term ws x ∙ e ∙ ap not q) .0 in
+        lt-leb (mark ws u x) 2 (omega arith) ∙ sym q
+
 base-high : (t : Bool) → base t ≤ 32
 unfolding base
 base-high true = omega arith
@@ -89,29 +103,16 @@ module _ (ws ms : List ℕ) (r : ℕ) (p : ListAsks ws ms r) (x : Record) (w : I
   pub element-room : x .a < length ms
   element-room = let l = element-low in let m = p .room in let e = w .a-is in omega arith
 
-  -- the mark of a type is at most 2
   element-mark : leb (getD ms (x .a) 0) 2 ≡ isType ws (fieldA ws r)
-  element-mark = rw (w .a-is, p .known .marked (fieldA ws r) element-low) (go (isType ws (fieldA ws r)) refl)
-    where
-      go : (t : Bool) → isType ws (fieldA ws r) ≡ t → leb (mark ws (used ws (r + 1)) (fieldA ws r)) 2 ≡ isType ws (fieldA ws r)
-      go true q =
-          let m = mark-unused ws (used ws (r + 1)) (fieldA ws r) (unfold both in rw (type-counts ws (fieldA ws r) q)) in
-          let k = within-true 1 2 (kind ws (fieldA ws r)) (kind-type ws (fieldA ws r) ∙ q) .1 in
-          le-leb (mark ws (used ws (r + 1)) (fieldA ws r)) 2 (omega arith) ∙ sym q
-      go false q =
-          let e : isTerm ws (fieldA ws r) ≡ true = other-kind ws r (p .so) (p .cell) ∙ ap not q in
-          let k = within-true 6 9 (kind ws (fieldA ws r)) (kind-term ws (fieldA ws r) ∙ e) .0 in
-          lt-leb (mark ws (used ws (r + 1)) (fieldA ws r)) 2 (above (both (counts ws (fieldA ws r)) (among (used ws (r + 1)) (fieldA ws r))) refl k) ∙ sym q
-        where
-          above : (b : Bool) → both (counts ws (fieldA ws r)) (among (used ws (r + 1)) (fieldA ws r)) ≡ b → 6 ≤ kind ws (fieldA ws r) → 2 < mark ws (used ws (r + 1)) (fieldA ws r)
-          above true z k = let m = mark-used ws (used ws (r + 1)) (fieldA ws r) z in omega arith
-          above false z k = let m = mark-unused ws (used ws (r + 1)) (fieldA ws r) z in omega arith
+  element-mark = rw (w .a-is, p .known .marked (fieldA ws r) element-low) (type-mark ws (used ws (r + 1)) (fieldA ws r) (other-kind ws r (p .so) (p .cell)))
 
   real : r ≡ NONE → ⊥
   real q = let f = p .above .few in omega arith
 
   marked-here : (v : ℕ) → v ≡ kind ws r → Marked ws (set ms r v) (used ws (r + 1)) (r + 1)
-  marked-here v e = marked-next ws (set ms r v) (used ws (r + 1)) r (marked-own ws ms (used ws (r + 1)) r (p .known) v) (simp length-set (p .room)) (getD-set-same ms r v 0 (p .room) ∙ e)
+  marked-here v e =
+      let m = marked-own ws ms (used ws (r + 1)) r (p .known) v in
+      marked-next ws (set ms r v) (used ws (r + 1)) r m (simp length-set (p .room)) (getD-set-same ms r v 0 (p .room) ∙ e)
 
   module _ (s : ℕ) (es : s ≡ base (leb (getD ms (x .a) 0) 2)) where
     start-is : s ≡ base (isType ws (fieldA ws r))
@@ -160,8 +161,8 @@ module _ (ws ms : List ℕ) (r : ℕ) (p : ListAsks ws ms r) (x : Record) (w : I
       rest-mark =
           let q = rest-low in
           let e : shape ws r .1 ≡ rest = rw (p .cell) in
-          rw (w .b-is)
-          (p .known .marked (fieldB ws r) (q .0) ∙ mark-used ws (used ws (r + 1)) (fieldB ws r) (rw (cell-counts ws (fieldB ws r) (q .1), rest-used ws r e some-rest (q .1))) ∙ ap (λ k. k + 128) (kind-cell ws (fieldB ws r) (q .1)))
+          let m = mark-used ws (used ws (r + 1)) (fieldB ws r) (rw (cell-counts ws (fieldB ws r) (q .1), rest-used ws r e some-rest (q .1))) in
+          rw (w .b-is) (p .known .marked (fieldB ws r) (q .0) ∙ m ∙ ap (λ k. k + 128) (kind-cell ws (fieldB ws r) (q .1)))
 
       pub rest-used-mark : 128 ≤ getD ms (x .b) 0
       rest-used-mark = let e = rest-mark in omega arith

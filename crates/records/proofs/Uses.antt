@@ -144,6 +144,13 @@ module _ (ws u : List ℕ) (x : ℕ) where
   unfolding mark
   mark-unused e = rw (e, mark)
 
+pub mark-least : (ws u : List ℕ) (x : ℕ) → kind ws x ≤ mark ws u x
+mark-least ws u x = go (both (counts ws x) (among u x)) refl
+  where
+    go : (b : Bool) → both (counts ws x) (among u x) ≡ b → kind ws x ≤ mark ws u x
+    go true q = let m = mark-used ws u x q in omega arith
+    go false q = let m = mark-unused ws u x q in omega arith
+
 mark-same : (ws u v : List ℕ) (x : ℕ) → among u x ≡ among v x → mark ws u x ≡ mark ws v x
 unfolding mark
 mark-same ws u v x e = rw (e, mark)
@@ -190,7 +197,8 @@ marked-new ws ms u r x h c n p = record {
     go y (no e) l = getD-set-other ms x y (getD ms x 0 + 128) 0 e ∙ p .marked y l ∙ sym (mark-same ws (x ∷ u) u y (among-other u x y e))
 
 -- the marks where x is referred to, if it counts
-pub marked-referred : (ws ms u : List ℕ) (r x : ℕ) (d : Bool) → (d ≡ true → (x < r) × (counts ws x ≡ true)) → fresh u (one d x) ≡ true → Marked ws ms u r → Marked ws (referred d ms x) (one d x ++ u) r
+pub marked-referred : (ws ms u : List ℕ) (r x : ℕ) (d : Bool) → (d ≡ true → (x < r) × (counts ws x ≡ true)) → fresh u (one d x) ≡ true
+    → Marked ws ms u r → Marked ws (referred d ms x) (one d x ++ u) r
 unfolding referred one fresh
 marked-referred ws ms u r x false h f p = p
 marked-referred ws ms u r x true h f p = let q = h refl in marked-new ws ms u r x (q .0) (q .1) (not-true _ (both-true _ _ f .0)) p

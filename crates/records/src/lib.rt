@@ -1,5 +1,7 @@
-// Records (5): the lowest record that breaks a rule of the records section, in one pass with a mark for each record. A mark tells the kind of a record that
-// keeps the rules: its tag; for a cell of types 16 and of terms 32 more than the cells of its list; and 128 more once it is referred to, if that may be only once.
+// Records (5): the lowest record that breaks a rule of the records section, in one pass with a mark for each record.
+//
+// The mark of a record that keeps the rules is its tag, 1 to 10; for a cell it is the number of cells of the list that begins there, and 16 more for types,
+// 32 more for terms. A record that may be referred to once only, which is one of tag 5 to 9, has 128 more when it is. So one mark judges a field.
 use table::EQ;
 use table::NONE;
 use table::Record;
