@@ -211,7 +211,27 @@ fn walk_hole(
     }
     let mut below = task;
     below.floor = raise(task.n, task.floor, at);
-    walk_term(table, solutions, below, used, next, 0, t)
+    let walked = walk_term(table, solutions, below, used, next, 0, t);
+    walked
+}
+
+// The walk of the other side of a pair: an occurrence takes no walk of a term.
+fn walk_side(
+    table: &mut [u32],
+    solutions: &mut [u32],
+    task: Task,
+    used: u32,
+    map: Map,
+    at: u32,
+) -> Walked
+    requires { ⌜ ReadyT (task .room) (task .n) (task .hole .0) map (now table) (now solutions) used (task .floor) 0 at ⌝ }
+    ensures { λ r. ⌜ WalksT (task .room) (task .n) (task .hole .0) map (now (table .entry)) (now (solutions .entry)) used (task .floor) 0 at (now (table .exit)) (now (solutions .exit)) r ⌝ }
+{
+    let rec = read(table, at);
+    if rec.tag == HA {
+        return walk_hole(table, solutions, task, used, map, 0, at);
+    }
+    walk_term(table, solutions, task, used, map, 0, at)
 }
 
 // What was written becomes the hole's solution, or the failure.
@@ -250,6 +270,6 @@ pub fn assign(
         hole: Hole(occ.a),
         floor: 0,
     };
-    let walked = walk_term(table, solutions, task, used, map, 0, right);
+    let walked = walk_side(table, solutions, task, used, map, right);
     then_record(solutions, Hole(occ.a), walked)
 }
