@@ -12,7 +12,7 @@ use Rattle.rules.specs.declared.Failure.the-variants.{Clash as Clashes}
 use Rattle.table.specs.declared.Record.{Record}
 use Rattle.table.specs.Reading.{IsRecord}
 use Rattle.step.specs.declared.Meeting.{Meeting}
-use Rattle.step.specs.declared.Meeting.the-variants.{Bodies, Arguments, SameHole, LeftHole, RightHole, Clash}
+use Rattle.step.specs.declared.Meeting.the-variants.{Bodies, Arguments, SameHole, Solve, Clash}
 use Rattle.rules.specs.Lists.{both, either}
 use Rattle.rules.specs.Words.{tag, fieldA, fieldB, has, elements, arguments}
 use Rattle.rules.specs.Store.{Store, Out, goes, fail, _>>=_}
@@ -61,13 +61,17 @@ pub record Terms (ws : List ℕ) (l r : ℕ) : Type 0 where
   pub left : Term ws l
   pub right : Term ws r
 
+-- two sides, in order or turned round
+pub data Sides (l r a b : ℕ) : Type 0 where
+  in-order : a ≡ l → b ≡ r → Sides l r a b
+  turned : a ≡ r → b ≡ l → Sides l r a b
+
 -- what is done where two sides meet so
 abbrev pub meetAs : Meeting → ℕ → ℕ → List Waiting → ℕ → ℕ → Store → Out Next
 meetAs (Bodies a b) R C q l r s = goes s (on a b)
 meetAs (Arguments a b) R C q l r s = join C q (zip (elements (s .words) a) (elements (s .words) b)) s >>= (λ p. goes (p .0) (done (p .1)))
 meetAs SameHole R C q l r s = sameHole R q l r s
-meetAs LeftHole R C q l r s = assign R l r s >>= finish q
-meetAs RightHole R C q l r s = assign R r l s >>= finish q
+meetAs (Solve a b) R C q l r s = assign R a b s >>= finish q
 meetAs Clash R C q l r s = fail Clashes s
 
 -- what is known of two sides that meet so
@@ -75,8 +79,7 @@ abbrev pub FactOf : List ℕ → ℕ → ℕ → Meeting → Type 0
 FactOf ws l r (Bodies a b) = Unit {0}
 FactOf ws l r (Arguments a b) = (7 ≤ tag ws l) × (tag ws l ≤ 8) × (tag ws r ≡ tag ws l) × (fieldA ws l ≡ fieldA ws r) × (a ≡ fieldB ws l) × (b ≡ fieldB ws r)
 FactOf ws l r SameHole = (tag ws l ≡ 9) × (tag ws r ≡ 9) × (fieldA ws l ≡ fieldA ws r)
-FactOf ws l r LeftHole = tag ws l ≡ 9
-FactOf ws l r RightHole = tag ws r ≡ 9
+FactOf ws l r (Solve a b) = (tag ws a ≡ 9) × Sides l r a b
 FactOf ws l r Clash = Unit {0}
 
 pub record MeetsAs (ws : List ℕ) (l r : ℕ) (k : Meeting) : Type 0 where
@@ -234,17 +237,17 @@ module _ (ws : List ℕ) (l r : ℕ) (h : Terms ws l r) (x y : Record) (ex : IsR
         solves : (R C : ℕ) (q : List Waiting) (ss : List ℕ) (u : ℕ) → meet R C q l r (store ws ss u) ≡ (solveOne R l r (store ws ss u) >>= finish q)
         solves R C q ss u = meet-solve R C q ws ss u l r none (either-none _ _ (differ 7) (differ 8)) (differ 9)
 
-        pub meets-left : x .tag ≡ 9 → MeetsAs ws l r LeftHole
+        pub meets-left : x .tag ≡ 9 → MeetsAs ws l r (Solve l r)
         meets-left t =
             let l₁ = left-is 9 t in
-            record { run = λ R C q ss u. solves R C q ss u ∙ ap (λ (o : Out ℕ). o >>= finish q) (solve-left R C q ws ss u l r (has-is ws l 9 l₁)); fact = l₁ }
+            record { run = λ R C q ss u. solves R C q ss u ∙ ap (λ (o : Out ℕ). o >>= finish q) (solve-left R C q ws ss u l r (has-is ws l 9 l₁)); fact = (l₁, in-order refl refl) }
 
-        pub meets-right : (x .tag ≡ 9 → ⊥) → y .tag ≡ 9 → MeetsAs ws l r RightHole
+        pub meets-right : (x .tag ≡ 9 → ⊥) → y .tag ≡ 9 → MeetsAs ws l r (Solve r l)
         meets-right t k =
             let r₁ = right-is 9 k in
             record {
               run = λ R C q ss u. solves R C q ss u ∙ ap (λ (o : Out ℕ). o >>= finish q) (solve-right R C q ws ss u l r (has-not ws l 9 (left-not 9 t)) (has-is ws r 9 r₁));
-              fact = r₁;
+              fact = (r₁, turned refl refl);
             }
 
         pub meets-clash : (x .tag ≡ 9 → ⊥) → (y .tag ≡ 9 → ⊥) → MeetsAs ws l r Clash

@@ -10,8 +10,8 @@ use Rattle.queue.specs.declared.Ring.{Ring}
 use Rattle.step.specs.declared.Step.{Step}
 use Rattle.step.specs.declared.Step.the-variants.{On, Failed as Fell}
 use Rattle.step.specs.declared.Meeting.{Meeting}
-use Rattle.step.specs.declared.Meeting.the-variants.{Bodies, Arguments, SameHole, LeftHole, RightHole, Clash}
-use Rattle.rules.specs.Words.{arguments, variables}
+use Rattle.step.specs.declared.Meeting.the-variants.{Bodies, Arguments, SameHole, Solve, Clash}
+use Rattle.rules.specs.Words.{tag, arguments, variables}
 use Rattle.rules.specs.Store.{fail}
 use Rattle.rules.specs.Walk.{assign}
 use Rattle.rules.specs.Machine.{meet}
@@ -26,7 +26,7 @@ use Rattle.promise.specs.Known.{Known, known-left, known-right, same-arguments,
 use Rattle.queue.specs.Ring.{view, Fine as Ringed}
 use Rattle.queue.specs.Arguments.{Joining}
 use Rattle.step.specs.Said.{Steps, ThenFinishes, quiet-rings, failed-rings, on-rings}
-use Rattle.step.specs.Meets.{Terms, MeetsAs, FactOf, meetAs}
+use Rattle.step.specs.Meets.{Terms, MeetsAs, Sides, in-order, turned, FactOf, meetAs}
 use Rattle.step.specs.Arguments.{Argues}
 use Rattle.step.specs.Same.{SameReady, SameDone}
 
@@ -108,18 +108,17 @@ module _ (R n : ℕ) (ws ss : List ℕ) (used : ℕ) (q : List ℕ) (cap : ℕ) 
     met-same ws₁ ss₁ x e p = record { said = meets-so SameHole e ∙ p .said q cap; rings = quiet-rings cap q g x (h .ring) (p .quiet) }
 
     -- 5
-    pub stood-left : k ≡ LeftHole → Assigning R n ws ss used l r
-    stood-left e = record { home = h .home; fine = fine; left = left; occ = known LeftHole e; right = right; scope = _; known = side-walks (known-right (h .known)) }
+    pub stood-solve : (a b : ℕ) → k ≡ Solve a b → Assigning R n ws ss used a b
+    stood-solve a b e = let f : FactOf ws l r (Solve a b) = known (Solve a b) e in go (f .0) (f .1)
+      where
+        go : tag ws a ≡ 9 → Sides l r a b → Assigning R n ws ss used a b
+        go t (in-order p o) =
+            rw (p, o) (record { home = h .home; fine = fine; left = left; occ = rw p at t; right = right; scope = _; known = side-walks (known-right (h .known)) })
+        go t (turned p o) =
+            rw (p, o) (record { home = h .home; fine = fine; left = right; occ = rw p at t; right = left; scope = _; known = side-walks (known-left (h .known)) })
 
-    pub stood-right : k ≡ RightHole → Assigning R n ws ss used r l
-    stood-right e = record { home = h .home; fine = fine; left = right; occ = known RightHole e; right = left; scope = _; known = side-walks (known-left (h .known)) }
-
-    module _ (ws₁ ss₁ : List ℕ) (w : Walked) (x : Step) (f : ThenFinishes g w x) where
-      pub met-left : k ≡ LeftHole → Does² n (assign R l r) ws ss used ws₁ ss₁ w → Met ws₁ ss₁ q x
-      met-left e p = record { said = meets-so LeftHole e ∙ rw (p .run) (f .said ws₁ ss₁ q cap); rings = quiet-rings cap q g x (h .ring) (f .quiet) }
-
-      pub met-right : k ≡ RightHole → Does² n (assign R r l) ws ss used ws₁ ss₁ w → Met ws₁ ss₁ q x
-      met-right e p = record { said = meets-so RightHole e ∙ rw (p .run) (f .said ws₁ ss₁ q cap); rings = quiet-rings cap q g x (h .ring) (f .quiet) }
+    pub met-solve : (a b : ℕ) (ws₁ ss₁ : List ℕ) (w : Walked) (x : Step) → k ≡ Solve a b → Does² n (assign R a b) ws ss used ws₁ ss₁ w → ThenFinishes g w x → Met ws₁ ss₁ q x
+    met-solve a b ws₁ ss₁ w x e p f = record { said = meets-so (Solve a b) e ∙ rw (p .run) (f .said ws₁ ss₁ q cap); rings = quiet-rings cap q g x (h .ring) (f .quiet) }
 
     pub met-clash : k ≡ Clash → Met ws ss q (Fell Clashes)
     unfolding fail

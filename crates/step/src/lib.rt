@@ -32,13 +32,12 @@ pub enum Step {
     Failed(Failure),
 }
 
-// What two heads that are no solved holes ask for: steps 2, 3, 4, 5 for the left or the right side, or a clash.
+// What two heads that are no solved holes ask for: steps 2, 3, 4, 5 for a side that a hole heads, or a clash.
 pub enum Meeting {
     Bodies { left: u32, right: u32 },
     Arguments { left: u32, right: u32 },
     SameHole,
-    LeftHole,
-    RightHole,
+    Solve { side: u32, other: u32 },
     Clash,
 }
 
@@ -85,10 +84,16 @@ fn meets(table: &[u32], left: u32, right: u32) -> Meeting
         };
     }
     if one.tag == HA {
-        return Meeting::LeftHole;
+        return Meeting::Solve {
+            side: left,
+            other: right,
+        };
     }
     if two.tag == HA {
-        return Meeting::RightHole;
+        return Meeting::Solve {
+            side: right,
+            other: left,
+        };
     }
     Meeting::Clash
 }
@@ -187,12 +192,8 @@ fn meet(
             r,
         ),
         Meeting::SameHole => same_hole(table, solutions, n, used, room, ring, left, right),
-        Meeting::LeftHole => {
-            let walked = assign(table, solutions, n, used, room, left, right);
-            done(ring, walked)
-        }
-        Meeting::RightHole => {
-            let walked = assign(table, solutions, n, used, room, right, left);
+        Meeting::Solve { side, other } => {
+            let walked = assign(table, solutions, n, used, room, side, other);
             done(ring, walked)
         }
         Meeting::Clash => Step::Failed(Failure::Clash),

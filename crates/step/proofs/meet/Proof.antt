@@ -1,5 +1,5 @@
 -- `step::meet` meets its contract.
-use Rattle.step.specs.Stand.{stood-terms, stood-argues, stood-same, stood-left, stood-right, met-bodies, met-arguments, met-same, met-left, met-right, met-clash}
+use Rattle.step.specs.Stand.{stood-terms, stood-argues, stood-same, stood-solve, met-bodies, met-arguments, met-same, met-solve, met-clash}
 use borrow.Author.Needs.{needs}
 use Rattle.step.proofs.meet.Statement.{statement}
 use Rattle.step.proofs.meet.Tie as tie
@@ -22,25 +22,19 @@ meet-spec =
     (λ c. search needs)
     (λ c κs. search stood-same)
     (λ c. search needs)
-    (λ c κs. search stood-left)
-    (λ c κs. search needs)
-    (λ c. search needs)
-    (λ c κs. search stood-right)
+    (λ c κs. search stood-solve)
     (λ c κs. search needs)
     (λ c. search needs)
     (λ c. search needs)
-    (λ c. search (met-bodies, met-arguments, met-same, met-left, met-right, met-clash))
+    (λ c. search (met-bodies, met-arguments, met-same, met-solve, met-clash))
     (λ c. search needs)
     (λ c. search needs)
-    (λ c. search (met-bodies, met-arguments, met-same, met-left, met-right, met-clash))
+    (λ c. search (met-bodies, met-arguments, met-same, met-solve, met-clash))
     (λ c. search needs)
     (λ c. search needs)
-    (λ c. search (met-bodies, met-arguments, met-same, met-left, met-right, met-clash))
+    (λ c. search (met-bodies, met-arguments, met-same, met-solve, met-clash))
     (λ c. search needs)
     (λ c. search needs)
-    (λ c. search (met-bodies, met-arguments, met-same, met-left, met-right, met-clash))
+    (λ c. search (met-bodies, met-arguments, met-same, met-solve, met-clash))
     (λ c. search needs)
-    (λ c. search needs)
-    (λ c. search (met-bodies, met-arguments, met-same, met-left, met-right, met-clash))
-    (λ c. search needs)
-    (λ c. search (met-bodies, met-arguments, met-same, met-left, met-right, met-clash)))
+    (λ c. search (met-bodies, met-arguments, met-same, met-solve, met-clash)))
