@@ -66,39 +66,18 @@ module _ {R : ℕ} {s : Store} {c d r : ℕ} (k : WalkKnown R s c d r) where
         scoped = All-map (scope-in c d) (b .0) (rw (b .1) at (k .scoped));
       }
 
-  pub walk-constant : tag (s .words) r ≡ CA → WalkAllKnown R s c d (fieldB (s .words) r)
-  walk-constant e =
-      let a = constant-arguments e (k .reads) in
-      record {
-        sig = k .sig;
-        sols = k .sols;
-        holds = k .holds;
-        solved = k .solved;
-        tree = a .0;
-        applied = a .2;
-        inside = rw (a .1) at (k .inside);
-        scoped = rw (a .1) at (k .scoped);
-      }
+  -- the arguments of a rigid head
+  under-head : (ts : Tree) → Applied (s .words) (s .used) (fieldB (s .words) r) ts → Holes (Declared (k .sig)) ts → Scoped (d + c) ts → WalkAllKnown R s c d (fieldB (s .words) r)
+  under-head ts a i p = record { sig = k .sig; sols = k .sols; holds = k .holds; solved = k .solved; tree = ts; applied = a; inside = i; scoped = p }
 
-  scoped-head : (e : tag (s .words) r ≡ VA) → (fieldA (s .words) r < d + c) × Scoped (d + c) (variable-arguments e (k .reads) .0)
-  scoped-head e = let a = variable-arguments e (k .reads) in rw (a .1) at (k .scoped)
+  pub walk-constant : tag (s .words) r ≡ CA → WalkAllKnown R s c d (fieldB (s .words) r)
+  walk-constant e = let a = constant-arguments e (k .reads) in under-head (a .0) (a .2) (rw (a .1) at (k .inside)) (rw (a .1) at (k .scoped))
 
   pub walk-variable : tag (s .words) r ≡ VA → (fieldA (s .words) r < d + c) × WalkAllKnown R s c d (fieldB (s .words) r)
   walk-variable e =
       let a = variable-arguments e (k .reads) in
-      let p = scoped-head e in (
-        p .0,
-        record {
-          sig = k .sig;
-          sols = k .sols;
-          holds = k .holds;
-          solved = k .solved;
-          tree = a .0;
-          applied = a .2;
-          inside = rw (a .1) at (k .inside);
-          scoped = p .1;
-        },
-      )
+      let p : (fieldA (s .words) r < d + c) × Scoped (d + c) (a .0) = rw (a .1) at (k .scoped) in
+      (p .0, under-head (a .0) (a .2) (rw (a .1) at (k .inside)) (p .1))
 
   -- an occurrence
   module _ (e : tag (s .words) r ≡ HA) where
