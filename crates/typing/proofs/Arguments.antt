@@ -17,11 +17,11 @@ use Rattle.rules.specs.Pattern.{offence}
 use Rattle.laws.specs.Tests.{false-true, both-no}
 use Rattle.laws.specs.Lists.{size, size-real, elements-none}
 use Rattle.laws.specs.Places.{TypeAt, ListAt, placed-inside, domain-at, result-at, term-cell, type-cell}
-use Rattle.typing.specs.declared.Final.{Final}
+use Rattle.typing.specs.declared.Left.the-variants.{Said, Last}
 use Rattle.typing.specs.Stack.{binders}
 use Rattle.typing.specs.Offences.{among-terms}
-use Rattle.typing.specs.Asks.{named, applies, filled, IsFinal, TermAsks, ArgsAsk, Told}
-use Rattle.typing.proofs.Heads.{final-arrow, domains-arrow, domains-base}
+use Rattle.typing.specs.Asks.{named, applies, alone, filled, TermAsks, ArgsAsk, Told, Leaves}
+use Rattle.typing.proofs.Heads.{final-arrow, domains-arrow, domains-base, both-yes}
 use Rattle.typing.proofs.Bare.{named-fills, other-fills, named-bare}
 use Rattle.typing.proofs.Occurrences.{among-end, among-cell, bare-offence}
 
@@ -81,6 +81,9 @@ module _ (Held : ℕ → Type 0) (so : ℕ → ℕ → Bool) (ws st₀ : List �
             let a = e .a-is in
             record { term = rw (e .a-is) (term-cell ws list (p .left) z .element); type = ty; bound = rw (p .keeps) (p .asks .bound); room = omega arith; few = p .few }
 
+        pub one-cell : among-terms ws list ≡ min (offence enough ws (cell .a)) (among-terms ws (cell .b))
+        one-cell = rw (e .a-is, e .b-is) (among-cell ws list (p .left) z)
+
         passed-on : (y : ℕ) (st₁ : List ℕ) (low₁ : ℕ) → Held y → so list rest ≡ so (cell .b) y → length st₁ ≡ length st → binders st₁ d ≡ binders st d → low₁ ≡ min low (offence enough ws (cell .a))
             → Passed Held so ws st₀ low₀ d l x st₁ low₁ (cell .b) y
         passed-on y st₁ low₁ h s n k o =
@@ -88,7 +91,7 @@ module _ (Held : ℕ → Type 0) (so : ℕ → ℕ → Bool) (ws st₀ : List �
             let le = p .less in
             let few = p .few in
             let q = p .lowest in
-            let one : among-terms ws list ≡ min (offence enough ws (cell .a)) (among-terms ws (cell .b)) = rw (e .a-is, e .b-is) (among-cell ws list (p .left) z) in
+            let one = one-cell in
             record {
               asks = p .asks;
               same-length = n ∙ p .same-length;
@@ -103,11 +106,6 @@ module _ (Held : ℕ → Type 0) (so : ℕ → ℕ → Bool) (ws st₀ : List �
 
 -- Held to a head's type
 
-both-yes : (a : Bool) → both a true ≡ a
-unfolding both
-both-yes true = refl
-both-yes false = refl
-
 both-swap : (a b c : Bool) → both a (both b c) ≡ both b (both a c)
 unfolding both
 both-swap true b c = refl
@@ -118,13 +116,22 @@ unfolding each
 each-none ok [] = refl
 each-none ok (y ∷ ys) = sym (ne-eqb (length (y ∷ ys)) 0 (λ q. omega arith))
 
+applies-alone : (ws ctx : List ℕ) (ty l head : ℕ) → l ≡ NONE → applies ws ctx ty l head ≡ alone ws ty head
+unfolding applies alone
+applies-alone ws ctx ty l head n = rw (elements-none ws l n, each-none)
+
+pub no-arguments : (ws st : List ℕ) (low d l head ty : ℕ) (b : Bool) → ArgsAsk (TypeAt ws) ws st low d l head → l ≡ NONE → b ≡ alone ws ty head → Leaves ws st low d l head ty st low (Said b)
+unfolding Leaves
+no-arguments ws st low d l head ty b a n q =
+    ends _ (applies ws (binders st d) ty) _ _ _ _ _ _ _ _ _ _ (passed-none _ _ _ _ _ _ _ _ a) b n (q ∙ sym (applies-alone ws (binders st d) ty l head n))
+
 module _ (ws st₀ : List ℕ) (low₀ d l head ty : ℕ) (st : List ℕ) (low list rest : ℕ) (p : Passed (TypeAt ws) (applies ws (binders st₀ d) ty) ws st₀ low₀ d l head st low list rest) where
   pub head-inside : 4 * rest + 3 < length ws
   head-inside = placed-inside _ ws rest (p .held)
 
   module _ (z : list ≡ NONE → ⊥) (t : Record) (i : IsRecord ws rest t) where
-    pub too-many : (t .tag ≡ AR → ⊥) → Told d (applies ws (binders st₀ d) ty l head) (among-terms ws l) st₀ low₀ st low false
-    unfolding applies each
+    pub too-many : (t .tag ≡ AR → ⊥) → Leaves ws st₀ low₀ d l head ty st low (Said false)
+    unfolding Leaves applies each
     too-many n =
         refuses _ (applies ws (binders st₀ d) ty) _ _ _ _ _ _ _ _ _ _ p st low refl
         (rw (term-cell ws list (p .left) z .reads, domains-base ws rest (p .held) (λ q. n (i .tag-is ∙ q))) (both-no _))
@@ -133,6 +140,9 @@ module _ (ws st₀ : List ℕ) (low₀ d l head ty : ℕ) (st : List ℕ) (low l
       pub domain-type : TypeAt ws (t .a)
       domain-type = rw (i .a-is) (domain-at ws rest (p .held) (sym (i .tag-is) ∙ k))
 
+      pub result-type : TypeAt ws (t .b)
+      result-type = rw (i .b-is) (result-at ws rest (p .held) (sym (i .tag-is) ∙ k))
+
       module _ (cell : Record) (e : IsRecord ws list cell) where
         turn : applies ws (binders st₀ d) ty list rest ≡ both (checks enough ws (binders st₀ d) (cell .a) (t .a)) (applies ws (binders st₀ d) ty (cell .b) (t .b))
         unfolding applies each
@@ -140,9 +150,35 @@ module _ (ws st₀ : List ℕ) (low₀ d l head ty : ℕ) (st : List ℕ) (low l
             let arrow = sym (i .tag-is) ∙ k in
             rw (term-cell ws list (p .left) z .reads, domains-arrow ws rest (p .held) arrow, final-arrow ws rest (p .held) arrow, e .a-is, e .b-is, i .a-is, i .b-is) (both-swap _ _ _)
 
+        module _ (n : cell .b ≡ NONE) (b : Bool) (q : b ≡ alone ws ty (t .b)) where
+          last-turn : applies ws (binders st₀ d) ty list rest ≡ both (checks enough ws (binders st₀ d) (cell .a) (t .a)) b
+          last-turn = turn ∙ rw (applies-alone ws (binders st₀ d) ty (cell .b) (t .b) n, ← q)
+
+          pub last-remains : b ≡ true → Leaves ws st₀ low₀ d l head ty st low (Last (cell .a) (t .a))
+          unfolding Leaves
+          last-remains y =
+              let none = among-end ws (cell .b) n in
+              let asks = element-asks _ _ _ _ _ _ _ _ _ _ _ _ p z cell e (t .a) domain-type in
+              let few = p .few in
+              let lowest = p .lowest in
+              let one = one-cell _ _ _ _ _ _ _ _ _ _ _ _ p z cell e in
+              record {
+                asks = asks;
+                lower = element-less _ _ _ _ _ _ _ _ _ _ _ _ p z cell e (size l) refl;
+                keeps = p .keeps;
+                same = p .same ∙ last-turn ∙ rw (y, both-yes, p .keeps);
+                lowest = omega arith;
+              }
+
+          pub last-ends : b ≡ false → Leaves ws st₀ low₀ d l head ty st low (Said false)
+          unfolding Leaves
+          last-ends y =
+              refuses _ (applies ws (binders st₀ d) ty) _ _ _ _ _ _ _ _ _ _ p st low refl
+              (last-turn ∙ rw y (both-no _))
+
         module _ (st₁ : List ℕ) (low₁ : ℕ) (b : Bool) (h : Told d (checks enough ws (binders st d) (cell .a) (t .a)) (offence enough ws (cell .a)) st low st₁ low₁ b) where
-          pub argument-fails : not b ≡ true → Told d (applies ws (binders st₀ d) ty l head) (among-terms ws l) st₀ low₀ st₁ low₁ false
-          unfolding both
+          pub argument-fails : not b ≡ true → Leaves ws st₀ low₀ d l head ty st₁ low₁ (Said false)
+          unfolding Leaves both
           argument-fails f =
               refuses _ (applies ws (binders st₀ d) ty) _ _ _ _ _ _ _ _ _ _ p st₁ low₁ (h .keeps)
               (turn ∙ rw (← p .keeps, ← h .says, not-true b f))
@@ -150,22 +186,8 @@ module _ (ws st₀ : List ℕ) (low₀ d l head ty : ℕ) (st : List ℕ) (low l
           pub argument-checks : length st₁ ≡ length st → not b ≡ false → Passed (TypeAt ws) (applies ws (binders st₀ d) ty) ws st₀ low₀ d l head st₁ low₁ (cell .b) (t .b)
           unfolding both
           argument-checks n f =
-              passed-on _ _ _ _ _ _ _ _ _ _ _ _ p z cell e (t .b) st₁ low₁
-              (rw (i .b-is) (result-at ws rest (p .held) (sym (i .tag-is) ∙ k)))
+              passed-on _ _ _ _ _ _ _ _ _ _ _ _ p z cell e (t .b) st₁ low₁ result-type
               (turn ∙ rw (← p .keeps, ← h .says, not-false b f)) n (h .keeps) (h .lowest (not-false _ f))
-
-  module _ (n : list ≡ NONE) (f : Final) (i : IsFinal ws rest f) where
-    pub too-few : (f .count ≡ 0 → ⊥) → Told d (applies ws (binders st₀ d) ty l head) (among-terms ws l) st₀ low₀ st low false
-    unfolding applies
-    too-few z =
-        refuses _ (applies ws (binders st₀ d) ty) _ _ _ _ _ _ _ _ _ _ p st low refl
-        (rw (elements-none ws list n, each-none, ← i .count-is, ne-eqb _ _ z) (both-no _))
-
-    pub arguments-end : f .count ≡ 0 → Told d (applies ws (binders st₀ d) ty l head) (among-terms ws l) st₀ low₀ st low (eqb (f .base) ty)
-    unfolding applies
-    arguments-end z =
-        ends _ (applies ws (binders st₀ d) ty) _ _ _ _ _ _ _ _ _ _ p _ n
-        (rw (elements-none ws list n, each-none, ← i .count-is, eq-eqb _ _ z, i .base-is) (sym (both-yes _)))
 
 -- Held to a context
 

@@ -1,20 +1,25 @@
--- Final types, domains and the types of variables, as they are read.
+-- Final types, domains and the types of heads, as they are read.
 use Prim.Native.Nat.{ℕ, _+_, _<_, _≤_}
-use mathlib.Core.Path.{_≡_, sym, ap, _∙_}
+use mathlib.Core.Path.{_≡_, refl, sym, ap, _∙_}
 use mathlib.Core.List.{List, [], _∷_}
+use mathlib.Core.Bool.{Bool, true, false}
 use native.Mathlib.Omega.{arith}
 use native.Mathlib.Decide.{decLt}
-use borrow.Author.Tests.{ne-eqb}
+use borrow.Author.Tests.{eq-eqb, ne-eqb}
 use lib.ListN.{length, getD}
+use lib.Dec.{eqb}
+use Rattle.table.specs.declared.Record.{Record}
+use Rattle.rules.specs.declared.Found.{Found}
 use Rattle.rules.specs.declared.Found.the-variants.{At, Nowhere}
-use Rattle.rules.specs.Lists.{enough}
-use Rattle.rules.specs.Words.{AR, tag, fieldA, fieldB, has}
+use Rattle.rules.specs.Lists.{both, enough}
+use Rattle.rules.specs.Words.{AR, VA, tag, fieldA, fieldB, has}
 use Rattle.rules.specs.Typing.{finalType, domains}
+use Rattle.laws.specs.Tests.{both-no}
 use Rattle.laws.specs.Unrolled.{final-unrolled, domains-unrolled}
 use Rattle.laws.specs.Places.{TypeAt, result-low}
 use Rattle.typing.specs.declared.Final.{Final}
 use Rattle.typing.specs.Stack.{typeOf, type-bound, type-free}
-use Rattle.typing.specs.Asks.{IsFinal}
+use Rattle.typing.specs.Asks.{alone, headType, IsFinal}
 
 module _ (ws : List ℕ) (ty : ℕ) (p : TypeAt ws ty) where
   pub final-arrow : tag ws ty ≡ AR → finalType enough ws ty ≡ finalType enough ws (fieldB ws ty)
@@ -47,6 +52,31 @@ module _ (ws : List ℕ) (ty : ℕ) (p : TypeAt ws ty) where
         count-is = rw (domains-arrow e, ← eb) (omega arith);
         few = omega arith;
       }
+
+pub both-yes : (a : Bool) → both a true ≡ a
+unfolding both
+both-yes true = refl
+both-yes false = refl
+
+-- a head of type ty without arguments
+module _ (ws : List ℕ) (head ty : ℕ) (f : Final) (i : IsFinal ws head f) where
+  pub asks-more : (f .count ≡ 0 → ⊥) → false ≡ alone ws ty head
+  unfolding alone
+  asks-more z = rw (← i .count-is, ne-eqb _ _ z) (sym (both-no _))
+
+  pub asks-none : f .count ≡ 0 → eqb (f .base) ty ≡ alone ws ty head
+  unfolding alone
+  asks-none z = rw (← i .count-is, eq-eqb _ _ z, i .base-is) (sym (both-yes _))
+
+-- a rigid head's type is its variable's, or its constant's
+module _ (ws ctx : List ℕ) (x : Record) where
+  pub head-variable : (f : Found) → x .tag ≡ VA → f ≡ typeOf ctx (x .a) → f ≡ headType ws ctx x
+  unfolding headType
+  head-variable f e q = q ∙ sym (rw (eq-eqb _ _ e, headType))
+
+  pub head-constant : (t : ℕ) → (x .tag ≡ VA → ⊥) → t ≡ fieldA ws (x .a) → At t ≡ headType ws ctx x
+  unfolding headType
+  head-constant t z q = ap At q ∙ sym (rw (ne-eqb _ _ z, headType))
 
 -- the type that is found for a variable is the context's
 pub type-found : (ctx : List ℕ) (v t : ℕ) → typeOf ctx v ≡ At t → (v < length ctx) × (getD ctx v 0 ≡ t)

@@ -1,7 +1,7 @@
-pub mod Heads  -- final types, domains and the types of variables
+pub mod Heads  -- final types, domains and the types of heads
 pub mod Bare  -- a hole's argument that is a bare variable
 pub mod Occurrences  -- offending occurrences in a term and in a list
 pub mod Arguments  -- an argument list, turn by turn
-pub mod Terms  -- a term under its lambdas
+pub mod Terms  -- a term, turn by turn
 pub mod Noted  -- the equations in a list
 pub mod Equations  -- the equations, one after another

@@ -1,11 +1,12 @@
--- A term under its lambdas: what is left to check after the outer ones, and what its head asks.
+-- A term, turn by turn: what is left to check, under a lambda or in a last argument, and what its head asks.
 use Prim.Native.Nat.{ℕ, _+_, _*_, _<_, _≤_, min}
 use mathlib.Core.Path.{_≡_, refl, sym, _∙_}
 use mathlib.Core.List.{List, _∷_}
 use mathlib.Core.Bool.{Bool, false}
+use mathlib.Core.Logic.{_⊎_, inl, inr}
 use native.Mathlib.Omega.{arith}
 use borrow.Author.Tests.{eq-eqb, ne-eqb, lt-ltb, le-ltb}
-use lib.ListN.{length, getD, set, length-set}
+use lib.ListN.{length, set, length-set}
 use Rattle.table.specs.declared.Record.{Record}
 use Rattle.table.specs.Reading.{IsRecord}
 use Rattle.rules.specs.declared.Found.{Found}
@@ -21,172 +22,208 @@ use Rattle.laws.specs.Forms.{is-lambda, is-constant, is-variable, is-hole, term
 use Rattle.laws.specs.Unrolled.{checks-unrolled}
 use Rattle.laws.specs.Places.{TypeAt, ListAt, placed-inside, placed-few, domain-at, result-at, body-at, arguments-at, constant-at, constant-inside, hole-at, context-at}
 use Rattle.patterns.specs.Occurrences.{occurrence}
+use Rattle.typing.specs.declared.Left.{Left}
+use Rattle.typing.specs.declared.Left.the-variants.{Said, Last}
 use Rattle.typing.specs.Stack.{binders, typeOf, binders-push, binders-pop}
 use Rattle.typing.specs.Offences.{among-terms}
-use Rattle.typing.specs.Asks.{applies, filled, TermAsks, ArgsAsk, Told}
-use Rattle.typing.proofs.Heads.{type-found, type-missing}
+use Rattle.typing.specs.Asks.{applies, headType, filled, TermAsks, ArgsAsk, Told, Remains, Leaves}
+use Rattle.typing.proofs.Heads.{head-variable, head-constant, type-found, type-missing}
 use Rattle.typing.proofs.Occurrences.{lambda-offence, constant-offence, variable-offence, hole-offence}
 
--- the outer lambdas are passed; record x is the term that is left
-pub record Under (ws st₀ : List ℕ) (low d₀ r ty : ℕ) (st : List ℕ) (d at term : ℕ) (x : Record) : Type 0 where
-  pub reads : IsRecord ws term x
+-- the term in hand: its check is the check asked, the first d₀ binders stay where the first d do, and the lowest offending occurrence of the
+-- whole is that of what is passed and of what is within
+pub record InHand (ws st₀ : List ℕ) (low₀ d₀ r ty : ℕ) (st : List ℕ) (low d at term : ℕ) : Type 0 where
   pub asks : TermAsks ws st low d term at
   pub same-length : length st ≡ length st₀
   pub lower : term ≤ r
   pub keeps : (e : List ℕ) → binders e d ≡ binders st d → binders e d₀ ≡ binders st₀ d₀
   pub same : checks enough ws (binders st₀ d₀) r ty ≡ checks enough ws (binders st d) term at
-  pub off : offence enough ws r ≡ offence enough ws term
+  pub lowest : min low₀ (offence enough ws r) ≡ min low (offence enough ws term)
 
-pub under-none : (ws st : List ℕ) (low d r ty : ℕ) (x : Record) → TermAsks ws st low d r ty → IsRecord ws r x → Under ws st low d r ty st d ty r x
-under-none ws st low d r ty x a i = record { reads = i; asks = a; same-length = refl; lower = omega arith; keeps = λ e q. q; same = refl; off = refl }
+pub hand-first : (ws st : List ℕ) (low d r ty : ℕ) → TermAsks ws st low d r ty → InHand ws st low d r ty st low d ty r
+hand-first ws st low d r ty a = record { asks = a; same-length = refl; lower = omega arith; keeps = λ e q. q; same = refl; lowest = refl }
 
-module _ (ws st₀ : List ℕ) (low d₀ r ty : ℕ) (st : List ℕ) (d at term : ℕ) (x : Record) (p : Under ws st₀ low d₀ r ty st d at term x) where
-  one : checks enough ws (binders st₀ d₀) r ty ≡ checkTerm (checks enough ws) ws (binders st d) term at
+module _ (ws st₀ : List ℕ) (low₀ d₀ r ty : ℕ) (st : List ℕ) (low d at term : ℕ) (p : InHand ws st₀ low₀ d₀ r ty st low d at term) where
+  -- what the check of the whole answers
+  abbrev Tells : List ℕ → ℕ → Bool → Type 0
+  Tells st₁ low₁ b = Told d₀ (checks enough ws (binders st₀ d₀) r ty) (offence enough ws r) st₀ low₀ st₁ low₁ b
+
+  -- what the term in hand is checked for
+  abbrev here : Bool
+  here = checkTerm (checks enough ws) ws (binders st d) term at
+
+  one : checks enough ws (binders st₀ d₀) r ty ≡ here
   one = let t = p .asks .term in p .same ∙ checks-unrolled ws (t .top) (t .legal) (binders st d) term at (t .low) (t .kind)
 
-  refuses : checkTerm (checks enough ws) ws (binders st d) term at ≡ false
-      → Told d₀ (checks enough ws (binders st₀ d₀) r ty) (offence enough ws r) st₀ low st low false
+  refuses : here ≡ false → Tells st low false
   refuses e = record { says = sym (one ∙ e); keeps = p .keeps st refl; lowest = λ t. absurd (false-true t) }
 
-  answers : (so b : Bool) (off low₁ : ℕ) (st₁ : List ℕ) → checkTerm (checks enough ws) ws (binders st d) term at ≡ so → offence enough ws term ≡ off
-      → Told d so off st low st₁ low₁ b
-      → Told d₀ (checks enough ws (binders st₀ d₀) r ty) (offence enough ws r) st₀ low st₁ low₁ b
+  answers : (so b : Bool) (off low₁ : ℕ) (st₁ : List ℕ) → here ≡ so → offence enough ws term ≡ off → Told d so off st low st₁ low₁ b → Tells st₁ low₁ b
   answers so b off low₁ st₁ e o h =
-      record { says = h .says ∙ sym (one ∙ e); keeps = p .keeps st₁ (h .keeps); lowest = λ t. h .lowest t ∙ rw (p .off, o) }
+      record { says = h .says ∙ sym (one ∙ e); keeps = p .keeps st₁ (h .keeps); lowest = λ t. let q = h .lowest t in let l = p .lowest in omega arith }
 
-  tagged : (k : ℕ) → x .tag ≡ k → tag ws term ≡ k
-  tagged k e = sym (p .reads .tag-is) ∙ e
+  -- a lower term, whose check is that of the term in hand, is the next in hand
+  goes-on : (st₁ : List ℕ) (low₁ d₁ at₁ term₁ : ℕ) → TermAsks ws st₁ low₁ d₁ term₁ at₁ → length st₁ ≡ length st → term₁ < term → ((e : List ℕ) → binders e d₁ ≡ binders st₁ d₁ → binders e d ≡ binders st d)
+      → here ≡ checks enough ws (binders st₁ d₁) term₁ at₁ → min low (offence enough ws term) ≡ min low₁ (offence enough ws term₁) → InHand ws st₀ low₀ d₀ r ty st₁ low₁ d₁ at₁ term₁
+  goes-on st₁ low₁ d₁ at₁ term₁ a n less k s o =
+      let lower = p .lower in
+      record { asks = a; same-length = n ∙ p .same-length; lower = omega arith; keeps = λ e q. p .keeps e (k e q); same = one ∙ s; lowest = p .lowest ∙ o }
+
+  pub term-inside : 4 * term + 3 < length ws
+  term-inside = placed-inside _ ws term (p .asks .term)
 
   pub type-inside : 4 * at + 3 < length ws
   type-inside = placed-inside _ ws at (p .asks .type)
 
-  -- A lambda
+  module _ (x : Record) (j : IsRecord ws term x) where
+    tagged : (k : ℕ) → x .tag ≡ k → tag ws term ≡ k
+    tagged k e = sym (j .tag-is) ∙ e
 
-  module _ (e : x .tag ≡ LA) where
-    pub body-inside : 4 * (x .a) + 3 < length ws
-    body-inside = rw (p .reads .a-is) (placed-inside _ ws _ (body-at ws term (p .asks .term) (tagged LA e) .1))
+    -- A lambda
 
-    pub body-less : x .a < term
-    body-less = rw (p .reads .a-is) (body-at ws term (p .asks .term) (tagged LA e) .0)
+    module _ (e : x .tag ≡ LA) where
+      pub body-less : x .a < term
+      body-less = rw (j .a-is) (body-at ws term (p .asks .term) (tagged LA e) .0)
 
-    pub room-left : d < length st
-    room-left = let room = p .asks .room in omega arith
+      pub room-left : d < length st
+      room-left = let room = p .asks .room in omega arith
 
-    module _ (y : Record) (i : IsRecord ws at y) where
-      pub no-arrow : (y .tag ≡ AR → ⊥) → Told d₀ (checks enough ws (binders st₀ d₀) r ty) (offence enough ws r) st₀ low st low false
-      unfolding both has
-      no-arrow z = refuses (check-lambda (checks enough ws) ws (binders st d) term at (tagged LA e) ∙ rw (← i .tag-is, ne-eqb _ _ z))
-
-      module _ (k : y .tag ≡ AR) where
-        arrow : tag ws at ≡ AR
-        arrow = sym (i .tag-is) ∙ k
-
-        pub domain-few : y .a < 4096
-        domain-few = rw (i .a-is) (placed-few _ ws _ (domain-at ws at (p .asks .type) arrow))
-
-        pushed : binders (set st d (y .a)) (d + 1) ≡ fieldA ws at ∷ binders st d
-        pushed = binders-push st d (y .a) room-left ∙ rw (i .a-is)
-
-        pub under-more : (x₁ : Record) → IsRecord ws (x .a) x₁ → Under ws st₀ low d₀ r ty (set st d (y .a)) (d + 1) (y .b) (x .a) x₁
+      module _ (y : Record) (i : IsRecord ws at y) where
+        pub no-arrow : (y .tag ≡ AR → ⊥) → Tells st low false
         unfolding both has
-        under-more x₁ i₁ =
-            let long : length (set st d (y .a)) ≡ length st = simp length-set in
-            let less = body-less in
-            let room = p .asks .room in
-            let low = p .lower in
-            let n = p .same-length in
-            record {
-              reads = i₁;
-              asks = record {
-                term = rw (p .reads .a-is) (body-at ws term (p .asks .term) (tagged LA e) .1);
+        no-arrow z = refuses (check-lambda (checks enough ws) ws (binders st d) term at (tagged LA e) ∙ rw (← i .tag-is, ne-eqb _ _ z))
+
+        module _ (k : y .tag ≡ AR) where
+          arrow : tag ws at ≡ AR
+          arrow = sym (i .tag-is) ∙ k
+
+          pub domain-few : y .a < 4096
+          domain-few = rw (i .a-is) (placed-few _ ws _ (domain-at ws at (p .asks .type) arrow))
+
+          pushed : binders (set st d (y .a)) (d + 1) ≡ fieldA ws at ∷ binders st d
+          pushed = binders-push st d (y .a) room-left ∙ rw (i .a-is)
+
+          pub body-next : InHand ws st₀ low₀ d₀ r ty (set st d (y .a)) low (d + 1) (y .b) (x .a)
+          unfolding both has
+          body-next =
+              let long : length (set st d (y .a)) ≡ length st = simp length-set in
+              let less = body-less in
+              let room = p .asks .room in
+              goes-on (set st d (y .a)) low (d + 1) (y .b) (x .a)
+              (record {
+                term = rw (j .a-is) (body-at ws term (p .asks .term) (tagged LA e) .1);
                 type = rw (i .b-is) (result-at ws at (p .asks .type) arrow);
                 bound = rw pushed (more (domain-at ws at (p .asks .type) arrow) (p .asks .bound));
                 room = omega arith;
                 few = p .asks .few;
-              };
-              same-length = omega arith;
-              lower = omega arith;
-              keeps = λ s q. p .keeps s (binders-pop s st d (y .a) room-left q);
-              same = one ∙ check-lambda (checks enough ws) ws (binders st d) term at (tagged LA e) ∙ rw (arrow, pushed, p .reads .a-is, i .b-is);
-              off = p .off ∙ lambda-offence ws term (p .asks .term) (tagged LA e) ∙ rw (p .reads .a-is);
-            }
+              })
+              long less (λ s q. binders-pop s st d (y .a) room-left q)
+              (check-lambda (checks enough ws) ws (binders st d) term at (tagged LA e) ∙ rw (arrow, pushed, j .a-is, i .b-is))
+              (rw (lambda-offence ws term (p .asks .term) (tagged LA e), j .a-is))
 
-  -- An applied constant, variable or hole
+    -- An applied hole, constant or variable
 
-  module _ (z : x .tag ≡ LA → ⊥) where
-    listed : (size (fieldB ws term) < term + 1) × ListAt (isTerm ws) ws (fieldB ws term)
-    listed = arguments-at ws term (p .asks .term) (λ e. z (p .reads .tag-is ∙ e))
+    module _ (z : x .tag ≡ LA → ⊥) where
+      listed : (size (fieldB ws term) < term + 1) × ListAt (isTerm ws) ws (fieldB ws term)
+      listed = arguments-at ws term (p .asks .term) (λ e. z (j .tag-is ∙ e))
 
-    pub arguments-list : ListAt (isTerm ws) ws (x .b)
-    arguments-list = rw (p .reads .b-is) (listed .1)
+      pub arguments-list : ListAt (isTerm ws) ws (x .b)
+      arguments-list = rw (j .b-is) (listed .1)
 
-    pub arguments-less : (k : ℕ) → r + 1 ≡ k → size (x .b) < k
-    arguments-less k h = let s = listed .0 in let low = p .lower in rw (p .reads .b-is) (omega arith)
+      list-less : size (x .b) < term + 1
+      list-less = rw (j .b-is) (listed .0)
 
-    arguments-ask : (Held : ℕ → Type 0) (h now : ℕ) → Held h → now ≤ low → ArgsAsk Held ws st now d (x .b) h
-    arguments-ask Held h now q le =
-        let few = p .asks .few in
-        let s = listed .0 in
-        let room = p .asks .room in
-        record { list = arguments-list; held = q; bound = p .asks .bound; room = rw (p .reads .b-is) (omega arith); few = omega arith }
+      pub arguments-less : (k : ℕ) → r + 1 ≡ k → size (x .b) < k
+      arguments-less k h = let s = list-less in let low = p .lower in omega arith
 
-    module _ (e : x .tag ≡ CA) where
-      pub head-inside : 4 * (x .a) + 3 < length ws
-      head-inside = rw (p .reads .a-is) (constant-inside ws term (p .asks .term) (tagged CA e))
+      arguments-ask : (Held : ℕ → Type 0) (h now : ℕ) → Held h → now ≤ low → ArgsAsk Held ws st now d (x .b) h
+      arguments-ask Held h now q le =
+          let few = p .asks .few in
+          let s = list-less in
+          let room = p .asks .room in
+          record { list = arguments-list; held = q; bound = p .asks .bound; room = omega arith; few = omega arith }
 
-      module _ (k : Record) (i : IsRecord ws (x .a) k) where
-        pub constant-asks : ArgsAsk (TypeAt ws) ws st low d (x .b) (k .a)
-        constant-asks = arguments-ask (TypeAt ws) (k .a) low (rw (i .a-is, p .reads .a-is) (constant-at ws term (p .asks .term) (tagged CA e))) (omega arith)
+      module _ (e : x .tag ≡ HA) where
+        pub hole-inside : 4 * (x .a) + 3 < length ws
+        hole-inside = rw (j .a-is) (placed-inside _ ws _ (hole-at ws term (p .asks .term) (tagged HA e)))
 
-        pub constant-told : (low₁ : ℕ) (st₁ : List ℕ) (b : Bool) → Told d (applies ws (binders st d) at (x .b) (k .a)) (among-terms ws (x .b)) st low st₁ low₁ b
-            → Told d₀ (checks enough ws (binders st₀ d₀) r ty) (offence enough ws r) st₀ low st₁ low₁ b
-        unfolding applied applies arguments
-        constant-told low₁ st₁ b h =
-            answers _ b _ low₁ st₁
-            (check-constant (checks enough ws) ws (binders st d) term at (tagged CA e) ∙ rw (← p .reads .a-is, ← i .a-is, ← p .reads .b-is))
-            (constant-offence ws term (p .asks .term) (tagged CA e) ∙ rw (← p .reads .b-is)) h
+        module _ (u : Record) (i : IsRecord ws (x .a) u) where
+          pub other-type : (u .b ≡ at → ⊥) → Tells st low false
+          unfolding both
+          other-type n = refuses (check-hole (checks enough ws) ws (binders st d) term at (tagged HA e) ∙ rw (← j .a-is, ← i .b-is, ne-eqb _ _ n))
 
-    module _ (e : x .tag ≡ VA) (f : Found) (q : f ≡ typeOf (binders st d) (x .a)) where
-      pub variable-free : f ≡ Nowhere → Told d₀ (checks enough ws (binders st₀ d₀) r ty) (offence enough ws r) st₀ low st low false
-      unfolding both
-      variable-free n = refuses (check-variable (checks enough ws) ws (binders st d) term at (tagged VA e) ∙ rw (← p .reads .a-is, le-ltb _ _ (type-missing (binders st d) (x .a) cc)))
+          pub hole-asks : (now o : ℕ) → now ≡ min low o → ArgsAsk (ListAt (isType ws) ws) ws st now d (x .b) (u .a)
+          hole-asks now o q = arguments-ask (ListAt (isType ws) ws) (u .a) now (rw (i .a-is, j .a-is) (context-at ws _ (hole-at ws term (p .asks .term) (tagged HA e)))) (omega arith)
 
-      module _ (t : ℕ) (n : f ≡ At t) where
-        found : (x .a < length (binders st d)) × (getD (binders st d) (x .a) 0 ≡ t)
-        found = type-found (binders st d) (x .a) t cc
+          pub hole-told : (now low₁ : ℕ) (st₁ : List ℕ) (b : Bool) → u .b ≡ at → now ≡ min low (occurrence ws term (x .b))
+              → Told d (filled ws (binders st d) (x .b) (u .a)) (among-terms ws (x .b)) st now st₁ low₁ b
+              → Tells st₁ low₁ b
+          unfolding filled arguments both
+          hole-told now low₁ st₁ b n o h =
+              answers (filled ws (binders st d) (x .b) (u .a)) b (min (occurrence ws term (x .b)) (among-terms ws (x .b))) low₁ st₁
+              (check-hole (checks enough ws) ws (binders st d) term at (tagged HA e) ∙ rw (← j .a-is, ← i .b-is, eq-eqb _ _ n, ← j .b-is, ← i .a-is))
+              (hole-offence ws term (p .asks .term) (tagged HA e) ∙ rw (← j .b-is))
+              record { says = h .says; keeps = h .keeps; lowest = λ t. let q = h .lowest t in omega arith }
 
-        pub variable-asks : ArgsAsk (TypeAt ws) ws st low d (x .b) t
-        variable-asks = arguments-ask (TypeAt ws) t low (rw (found .1) at (every-at (TypeAt ws) (binders st d) (x .a) (found .0) (p .asks .bound))) (omega arith)
+      module _ (y : x .tag ≡ HA → ⊥) where
+        -- a rigid head is a variable or a constant
+        rigid : (tag ws term ≡ VA) ⊎ (tag ws term ≡ CA)
+        rigid = elim (term-of ws term (p .asks .term .kind)) [ is-lambda e ↦ absurd (z (j .tag-is ∙ e)) | is-constant e ↦ inr e | is-variable e ↦ inl e | is-hole e ↦ absurd (y (j .tag-is ∙ e)) ]
 
-        pub variable-told : (low₁ : ℕ) (st₁ : List ℕ) (b : Bool) → Told d (applies ws (binders st d) at (x .b) t) (among-terms ws (x .b)) st low st₁ low₁ b
-            → Told d₀ (checks enough ws (binders st₀ d₀) r ty) (offence enough ws r) st₀ low st₁ low₁ b
-        unfolding applied applies arguments both
-        variable-told low₁ st₁ b h =
-            answers _ b _ low₁ st₁
-            (check-variable (checks enough ws) ws (binders st d) term at (tagged VA e) ∙ rw (← p .reads .a-is, lt-ltb _ _ (found .0), found .1, ← p .reads .b-is))
-            (variable-offence ws term (p .asks .term) (tagged VA e) ∙ rw (← p .reads .b-is)) h
+        variable-type : tag ws term ≡ VA → typeOf (binders st d) (x .a) ≡ headType ws (binders st d) x
+        variable-type e = head-variable ws (binders st d) x _ (j .tag-is ∙ e) refl
 
-    module _ (nc : x .tag ≡ CA → ⊥) (nv : x .tag ≡ VA → ⊥) where
-      a-hole : tag ws term ≡ HA
-      a-hole = elim (term-of ws term (p .asks .term .kind)) [ is-lambda e ↦ absurd (z (p .reads .tag-is ∙ e)) | is-constant e ↦ absurd (nc (p .reads .tag-is ∙ e)) | is-variable e ↦ absurd (nv (p .reads .tag-is ∙ e)) | is-hole e ↦ e ]
+        constant-type : tag ws term ≡ CA → At (fieldA ws (x .a)) ≡ headType ws (binders st d) x
+        constant-type e = head-constant ws (binders st d) x _ (λ v. let k = j .tag-is in omega arith) refl
 
-      pub hole-inside : 4 * (x .a) + 3 < length ws
-      hole-inside = rw (p .reads .a-is) (placed-inside _ ws _ (hole-at ws term (p .asks .term) a-hole))
+        pub head-inside : (x .tag ≡ VA → ⊥) → 4 * (x .a) + 3 < length ws
+        head-inside v = elim rigid [ inl e ↦ absurd (v (j .tag-is ∙ e)) | inr e ↦ rw (j .a-is) (constant-inside ws term (p .asks .term) e) ]
 
-      module _ (u : Record) (i : IsRecord ws (x .a) u) where
-        pub other-type : (u .b ≡ at → ⊥) → Told d₀ (checks enough ws (binders st₀ d₀) r ty) (offence enough ws r) st₀ low st low false
-        unfolding both
-        other-type n = refuses (check-hole (checks enough ws) ws (binders st d) term at a-hole ∙ rw (← p .reads .a-is, ← i .b-is, ne-eqb _ _ n))
+        rigid-offence : offence enough ws term ≡ among-terms ws (x .b)
+        rigid-offence = rw (j .b-is) (elim rigid [ inl e ↦ variable-offence ws term (p .asks .term) e | inr e ↦ constant-offence ws term (p .asks .term) e ])
 
-        pub hole-asks : (now o : ℕ) → now ≡ min low o → ArgsAsk (ListAt (isType ws) ws) ws st now d (x .b) (u .a)
-        hole-asks now o e = arguments-ask (ListAt (isType ws) ws) (u .a) now (rw (i .a-is, p .reads .a-is) (context-at ws _ (hole-at ws term (p .asks .term) a-hole))) (omega arith)
+        module _ (f : Found) (q : f ≡ headType ws (binders st d) x) where
+          pub head-free : f ≡ Nowhere → Tells st low false
+          unfolding both
+          head-free n = go rigid
+            where
+              go : (tag ws term ≡ VA) ⊎ (tag ws term ≡ CA) → Tells st low false
+              go (inl e) = refuses (check-variable (checks enough ws) ws (binders st d) term at e ∙ rw (← j .a-is, le-ltb _ _ (type-missing (binders st d) (x .a) (variable-type e ∙ sym q ∙ n))))
+              go (inr e) = let w : _≡_ {A = ℕ} 0 1 = cc (constant-type e) in absurd (omega arith)
 
-        pub hole-told : (now low₁ : ℕ) (st₁ : List ℕ) (b : Bool) → u .b ≡ at → now ≡ min low (occurrence ws term (x .b))
-            → Told d (filled ws (binders st d) (x .b) (u .a)) (among-terms ws (x .b)) st now st₁ low₁ b
-            → Told d₀ (checks enough ws (binders st₀ d₀) r ty) (offence enough ws r) st₀ low st₁ low₁ b
-        unfolding filled arguments both
-        hole-told now low₁ st₁ b n o h =
-            answers (filled ws (binders st d) (x .b) (u .a)) b (min (occurrence ws term (x .b)) (among-terms ws (x .b))) low₁ st₁
-            (check-hole (checks enough ws) ws (binders st d) term at a-hole ∙ rw (← p .reads .a-is, ← i .b-is, eq-eqb _ _ n, ← p .reads .b-is, ← i .a-is))
-            (hole-offence ws term (p .asks .term) a-hole ∙ rw (← p .reads .b-is))
-            record { says = h .says; keeps = h .keeps; lowest = λ t. let q = h .lowest t in omega arith }
+          module _ (h : ℕ) (n : f ≡ At h) where
+            rigid-check : (TypeAt ws h) × (here ≡ applies ws (binders st d) at (x .b) h)
+            unfolding applied applies arguments both
+            rigid-check = go rigid
+              where
+                go : (tag ws term ≡ VA) ⊎ (tag ws term ≡ CA) → (TypeAt ws h) × (here ≡ applies ws (binders st d) at (x .b) h)
+                go (inl e) =
+                    let found = type-found (binders st d) (x .a) h (variable-type e ∙ sym q ∙ n) in (
+                      rw (found .1) at (every-at (TypeAt ws) (binders st d) (x .a) (found .0) (p .asks .bound)),
+                      check-variable (checks enough ws) ws (binders st d) term at e ∙ rw (← j .a-is, lt-ltb _ _ (found .0), found .1, ← j .b-is),
+                    )
+                go (inr e) =
+                    let is : fieldA ws (x .a) ≡ h = cc (constant-type e) in (
+                      rw (← is, j .a-is) (constant-at ws term (p .asks .term) e),
+                      check-constant (checks enough ws) ws (binders st d) term at e ∙ rw (← j .a-is, is, ← j .b-is),
+                    )
+
+            pub head-asks : ArgsAsk (TypeAt ws) ws st low d (x .b) h
+            head-asks = arguments-ask (TypeAt ws) h low (rigid-check .0) (omega arith)
+
+            module _ (st₁ : List ℕ) (low₁ : ℕ) (o : Left) (v : Leaves ws st low d (x .b) h at st₁ low₁ o) where
+              pub head-told : (b : Bool) → o ≡ Said b → Tells st₁ low₁ b
+              unfolding Leaves
+              head-told b e = answers _ b _ low₁ st₁ (rigid-check .1) rigid-offence (rw e at v)
+
+              module _ (t u : ℕ) (e : o ≡ Last t u) where
+                left : Remains ws st low d (x .b) h at st₁ low₁ t u
+                unfolding Leaves
+                left = rw e at v
+
+                pub last-less : t < term
+                last-less = let s = list-less in let l = left .lower in omega arith
+
+                pub last-next : length st₁ ≡ length st → InHand ws st₀ low₀ d₀ r ty st₁ low₁ d u t
+                last-next k =
+                    goes-on st₁ low₁ d u t (left .asks) k last-less (λ s w. w ∙ left .keeps) (rigid-check .1 ∙ left .same) (rw rigid-offence (left .lowest))

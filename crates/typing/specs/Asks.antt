@@ -5,15 +5,21 @@ use mathlib.Core.List.{List}
 use mathlib.Core.Bool.{Bool, true, false, not}
 use lib.ListN.{length, getD, take}
 use lib.Dec.{eqb, ltb}
+use Rattle.table.specs.declared.Record.{Record}
+use Rattle.rules.specs.declared.Found.{Found}
+use Rattle.rules.specs.declared.Found.the-variants.{At}
 use Rattle.rules.specs.Lists.{both, each, those, below, enough}
-use Rattle.rules.specs.Words.{NONE, EQ, tag, fieldA, has, isTerm, elements, bare}
+use Rattle.rules.specs.Words.{NONE, VA, EQ, tag, fieldA, has, isTerm, elements, bare}
 use Rattle.rules.specs.Typing.{finalType, domains, fills, checks, typed}
+use Rattle.rules.specs.Pattern.{offence}
 use Rattle.laws.specs.Lists.{size}
 use Rattle.laws.specs.Members.{Legal, Every}
 use Rattle.laws.specs.Places.{TypeAt, TermAt, ListAt}
 use Rattle.typing.specs.declared.Final.{Final}
-use Rattle.typing.specs.Stack.{binders}
-use Rattle.typing.specs.Offences.{sides}
+use Rattle.typing.specs.declared.Left.{Left}
+use Rattle.typing.specs.declared.Left.the-variants.{Said, Last}
+use Rattle.typing.specs.Stack.{binders, typeOf}
+use Rattle.typing.specs.Offences.{sides, among-terms}
 
 -- a hole's argument is a bare variable of exactly the type asked
 unfoldable pub named : List ℕ → List ℕ → ℕ → ℕ → Bool
@@ -22,6 +28,14 @@ named ws ctx x t = both (bare ws x) (both (ltb (fieldA ws x) (length ctx)) (eqb 
 -- a head of this type, applied to list l, has type ty
 unfoldable pub applies : List ℕ → List ℕ → ℕ → ℕ → ℕ → Bool
 applies ws ctx ty l head = both (eqb (finalType enough ws head) ty) (each (checks enough ws ctx) (elements ws l) (domains enough ws head))
+
+-- a head of this type has type ty without arguments
+unfoldable pub alone : List ℕ → ℕ → ℕ → Bool
+alone ws ty head = both (eqb (finalType enough ws head) ty) (eqb (length (domains enough ws head)) 0)
+
+-- the type of a rigid head: a bound variable's, or a constant's
+unfoldable pub headType : List ℕ → List ℕ → Record → Found
+headType ws ctx x = elim (eqb (x .tag) VA) [ true ↦ typeOf ctx (x .a) | false ↦ At (fieldA ws (x .a)) ]
 
 -- list l fills a context
 unfoldable pub filled : List ℕ → List ℕ → ℕ → ℕ → Bool
@@ -77,3 +91,17 @@ pub record Told (d : ℕ) (so : Bool) (off : ℕ) (st : List ℕ) (low : ℕ) (s
 pub record Offends (ws : List ℕ) (e low low₁ : ℕ) (b : Bool) : Type 0 where
   pub says : b ≡ not (typed ws e)
   pub lowest : b ≡ false → low₁ ≡ min low (sides ws e)
+
+-- of list l, after a head of this type, the last argument alone is left to check, at type t; its number is lower than the list's, the first d
+-- binders stay, and the lowest offending occurrence so far counts those within the other arguments
+pub record Remains (ws st : List ℕ) (low d l head ty : ℕ) (st₁ : List ℕ) (low₁ term t : ℕ) : Type 0 where
+  pub asks : TermAsks ws st₁ low₁ d term t
+  pub lower : term + 1 < size l
+  pub keeps : binders st₁ d ≡ binders st d
+  pub same : applies ws (binders st d) ty l head ≡ checks enough ws (binders st₁ d) term t
+  pub lowest : min low (among-terms ws l) ≡ min low₁ (offence enough ws term)
+
+-- what a check of list l after a head of this type leaves: an answer, or the last argument
+unfoldable pub Leaves : List ℕ → List ℕ → ℕ → ℕ → ℕ → ℕ → ℕ → List ℕ → ℕ → Left → Type 0
+Leaves ws st low d l head ty st₁ low₁ (Said b) = Told d (applies ws (binders st d) ty l head) (among-terms ws l) st low st₁ low₁ b
+Leaves ws st low d l head ty st₁ low₁ (Last term t) = Remains ws st low d l head ty st₁ low₁ term t

@@ -3,9 +3,10 @@
 use patterns::offended;
 use rules::Found;
 use table::AR;
-use table::CA;
+use table::HA;
 use table::LA;
 use table::NONE;
+use table::Record;
 use table::VA;
 use table::Variable;
 use table::read;
@@ -13,19 +14,25 @@ ghost use mathlib.Core.Path.{_≡_};
 ghost use Prim.Native.Nat.{_+_, _*_, _<_, _≤_};
 ghost use lib.ListN.{length};
 ghost use Rattle.rules.specs.Lists.{enough};
-ghost use Rattle.rules.specs.Words.{isType};
+ghost use Rattle.rules.specs.Words.{VA, isType};
 ghost use Rattle.rules.specs.Typing.{checks};
 ghost use Rattle.rules.specs.Pattern.{offence};
 ghost use Rattle.laws.specs.Places.{TypeAt, ListAt};
 ghost use Rattle.typing.specs.Stack.{binders, typeOf};
 ghost use Rattle.typing.specs.Offences.{among-terms};
-ghost use Rattle.typing.specs.Asks.{named, applies, filled, IsFinal, TermAsks, ArgsAsk, EquationAsks, JudgeAsks, Told, Offends};
+ghost use Rattle.typing.specs.Asks.{named, alone, headType, filled, IsFinal, TermAsks, ArgsAsk, EquationAsks, JudgeAsks, Told, Offends, Leaves};
 ghost use Rattle.typing.specs.Judging.{Judges};
 
 // A head's final type, and how many arguments it asks.
 pub struct Final {
     pub base: u32,
     pub count: u32,
+}
+
+// What a check of an argument list leaves: an answer, or the last argument, still to be checked at this type.
+pub enum Left {
+    Said(bool),
+    Last { term: u32, ty: u32 },
 }
 
 // All equations check and all hole occurrences are patterns; or the lowest ill-typed equation, or the lowest offending occurrence.
@@ -99,7 +106,31 @@ fn names(table: &[u32], stack: &[u16], depth: usize, x: u32, ty: u32) -> bool
     t == ty
 }
 
-// A term checks at a type under the binders on the stack.
+// What is left of a head's type is the type asked.
+fn ends(table: &[u32], rest: u32, ty: u32) -> bool
+    requires { ⌜ TypeAt (now table) rest ⌝ }
+    ensures { λ b. ⌜ b ≡ alone (now (table .entry)) ty rest ⌝ }
+{
+    let f = last_type(table, rest);
+    if f.count != 0 {
+        return false;
+    }
+    f.base == ty
+}
+
+// The type of a rigid head: a bound variable's, or a constant's.
+fn head_type(table: &[u32], stack: &[u16], depth: usize, x: Record) -> Found
+    requires { ⌜ (depth ≤ length (now stack)) × ((x .tag ≡ VA → ⊥) → 4 * (x .a) + 3 < length (now table)) ⌝ }
+    ensures { λ r. ⌜ r ≡ headType (now (table .entry)) (binders (now (stack .entry)) depth) x ⌝ }
+{
+    if x.tag == VA {
+        return type_of(stack, depth, Variable(x.a));
+    }
+    let constant = read(table, x.a);
+    Found::At(constant.a)
+}
+
+// A term checks at a type under the binders on the stack. The check goes on with a lambda's body, and with a rigid head's last argument.
 fn check_term(
     table: &[u32],
     stack: &mut [u16],
@@ -114,38 +145,44 @@ fn check_term(
     let mut d = depth;
     let mut at = ty;
     let mut term = r;
-    let mut x = read(table, r);
-    while x.tag == LA {
-        let y = read(table, at);
-        if y.tag != AR {
-            return false;
+    loop {
+        let x = read(table, term);
+        if x.tag == LA {
+            let y = read(table, at);
+            if y.tag != AR {
+                return false;
+            }
+            stack[d] = y.a as u16;
+            d += 1;
+            at = y.b;
+            term = x.a;
+            continue;
         }
-        stack[d] = y.a as u16;
-        d += 1;
-        at = y.b;
-        term = x.a;
-        x = read(table, term);
-    }
-    if x.tag == CA {
-        let constant = read(table, x.a);
-        return check_args(table, stack, low, d, x.b, constant.a, at);
-    }
-    if x.tag == VA {
-        let Found::At(t) = type_of(stack, d, Variable(x.a)) else {
+        if x.tag == HA {
+            let hole = read(table, x.a);
+            if hole.b != at {
+                return false;
+            }
+            *low = offended(table, *low, term, x.b);
+            return check_fills(table, stack, low, d, x.b, hole.a);
+        }
+        let Found::At(head) = head_type(table, stack, d, x) else {
             return false;
         };
-        return check_args(table, stack, low, d, x.b, t, at);
+        match check_args(table, stack, low, d, x.b, head, at) {
+            Left::Said(b) => {
+                return b;
+            }
+            Left::Last { term: last, ty: t } => {
+                term = last;
+                at = t;
+            }
+        }
     }
-    let hole = read(table, x.a);
-    if hole.b != at {
-        return false;
-    }
-    *low = offended(table, *low, term, x.b);
-    check_fills(table, stack, low, d, x.b, hole.a)
 }
 
 // An argument list has exactly as many arguments as the head's type asks, each checks, and what is left of the head's type is the
-// type asked.
+// type asked. The check of the last argument, which then decides, is left.
 fn check_args(
     table: &[u32],
     stack: &mut [u16],
@@ -154,29 +191,36 @@ fn check_args(
     l: u32,
     head: u32,
     ty: u32,
-) -> bool
+) -> Left
     requires { ⌜ ArgsAsk (TypeAt (now table)) (now table) (now stack) (now low) depth l head ⌝ }
-    ensures { λ b. ⌜ Told depth (applies (now (table .entry)) (binders (now (stack .entry)) depth) ty l head) (among-terms (now (table .entry)) l) (now (stack .entry)) (now (low .entry)) (now (stack .exit)) (now (low .exit)) b ⌝ }
+    ensures { λ x. ⌜ Leaves (now (table .entry)) (now (stack .entry)) (now (low .entry)) depth l head ty (now (stack .exit)) (now (low .exit)) x ⌝ }
 {
+    if l == NONE {
+        return Left::Said(ends(table, head, ty));
+    }
     let mut list = l;
     let mut rest = head;
-    while list != NONE {
+    loop {
         let t = read(table, rest);
         if t.tag != AR {
-            return false;
+            return Left::Said(false);
         }
         let cell = read(table, list);
+        if cell.b == NONE {
+            if ends(table, t.b, ty) {
+                return Left::Last {
+                    term: cell.a,
+                    ty: t.a,
+                };
+            }
+            return Left::Said(false);
+        }
         if !check_term(table, stack, low, depth, cell.a, t.a) {
-            return false;
+            return Left::Said(false);
         }
         list = cell.b;
         rest = t.b;
     }
-    let f = last_type(table, rest);
-    if f.count != 0 {
-        return false;
-    }
-    f.base == ty
 }
 
 // A hole's arguments are as many as the context's types; each is a bare variable of exactly its type, or checks at it.

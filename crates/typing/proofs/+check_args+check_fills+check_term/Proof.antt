@@ -2,13 +2,14 @@
 use borrow.Author.Needs.{needs}
 use native.Mathlib.Omega.{arith}
 use Prim.Native.Nat.{ℕ, _<_, _+_}
-use Rattle.rules.specs.Words.{isType}
+use mathlib.Core.Path.{_≡_}
+use Rattle.rules.specs.Words.{NONE, isType}
 use Rattle.laws.specs.Lists.{size}
-use Rattle.laws.specs.Places.{TypeAt, ListAt, placed-inside}
+use Rattle.laws.specs.Places.{TypeAt, ListAt}
 use Rattle.typing.specs.Stack.{binders}
 use Rattle.typing.specs.Asks.{applies, filled}
-use Rattle.typing.proofs.Arguments.{Passed, passed-none, cell-inside, element-inside, rest-less, element-less, element-asks, head-inside as type-of-head-inside, too-many, domain-type, argument-fails, argument-checks, too-few, arguments-end, context-ends, context-short, context-inside, context-type, bare-fills, filling-fails, filling-checks}
-use Rattle.typing.proofs.Terms.{Under, under-none, type-inside, body-inside, body-less, room-left, no-arrow, domain-few, under-more, arguments-list, arguments-less, head-inside, constant-asks, constant-told, variable-free, variable-asks, variable-told, hole-inside, other-type, hole-asks, hole-told}
+use Rattle.typing.proofs.Arguments.{Passed, passed-none, cell-inside, element-inside, rest-less, element-less, element-asks, no-arguments, head-inside as type-of-head-inside, too-many, domain-type, result-type, last-remains, last-ends, argument-fails, argument-checks, context-ends, context-short, context-inside, context-type, bare-fills, filling-fails, filling-checks}
+use Rattle.typing.proofs.Terms.{InHand, hand-first, term-inside, type-inside, body-less, room-left, no-arrow, domain-few, body-next, arguments-list, arguments-less, hole-inside, other-type, hole-asks, hole-told, head-inside, head-free, head-asks, head-told, last-less, last-next}
 use borrow.Fn.Kinds.{In}
 use borrow.Fn.PlainCycle.{Measures, is, falls, and}
 use Rattle.typing.proofs.check_args.Reads as check-args
@@ -22,9 +23,9 @@ use Rattle.typing.proofs.check_term.Kinds as check-term-kinds
 use Rattle.typing.proofs.+check_args+check_fills+check_term.Lts-check_term as check-term-lts
 use Rattle.patterns.proofs.offended.Reads as offended-reads
 use Rattle.table.proofs.read.Reads as read-reads
-use Rattle.typing.proofs.last_type.Reads as last-type-reads
+use Rattle.typing.proofs.ends.Reads as ends-reads
+use Rattle.typing.proofs.head_type.Reads as head-type-reads
 use Rattle.typing.proofs.names.Reads as names-reads
-use Rattle.typing.proofs.type_of.Reads as type-of-reads
 use Rattle.typing.proofs.+check_args+check_fills+check_term.{statement}
 use Rattle.typing.proofs.+check_args+check_fills+check_term.Tie.{close}
 
@@ -63,7 +64,7 @@ check-term-below t =
 
 abbrev check-args-calls : ℕ → check-args-lts.Claims
 check-args-calls t =
-    (read-reads.Asked, read-reads.Learnt, check-term-below t, check-term.Post, last-type-reads.Asked, last-type-reads.Learnt)
+    (ends-reads.Asked, ends-reads.Learnt, read-reads.Asked, read-reads.Learnt, check-term-below t, check-term.Post)
 
 abbrev check-fills-calls : ℕ → check-fills-lts.Claims
 check-fills-calls t =
@@ -71,10 +72,10 @@ check-fills-calls t =
 
 abbrev check-term-calls : ℕ → check-term-lts.Claims
 check-term-calls t =
-    (read-reads.Asked, read-reads.Learnt, check-args-below t, check-args.Post, type-of-reads.Asked, type-of-reads.Learnt, offended-reads.Asked, offended-reads.Learnt, check-fills-below t, check-fills.Post)
+    (read-reads.Asked, read-reads.Learnt, offended-reads.Asked, offended-reads.Learnt, check-fills-below t, check-fills.Post, head-type-reads.Asked, head-type-reads.Learnt, check-args-below t, check-args.Post)
 
 abbrev check-args-Inv-loop : check-args-lts.InvT-loop
-check-args-Inv-loop table stack₀ low₀ depth l head ty list₀ rest₀ stack low list rest = Passed (TypeAt table) (applies table (binders stack₀ depth) ty) table stack₀ low₀ depth l head stack low list rest
+check-args-Inv-loop table stack₀ low₀ depth l head ty list₀ rest₀ stack low list rest = (Passed (TypeAt table) (applies table (binders stack₀ depth) ty) table stack₀ low₀ depth l head stack low list rest) × (list ≡ NONE → ⊥)
 
 abbrev check-args-μ-loop : check-args-lts.MeasureT-loop
 check-args-μ-loop table stack₀ low₀ depth l head ty list₀ rest₀ stack low list rest = size list
@@ -86,10 +87,10 @@ abbrev check-fills-μ-loop : check-fills-lts.MeasureT-loop
 check-fills-μ-loop table stack₀ low₀ depth l context list₀ rest₀ stack low list rest = size list
 
 abbrev check-term-Inv-loop : check-term-lts.InvT-loop
-check-term-Inv-loop table stack₀ low depth r ty d₀ at₀ term₀ x₀ stack d at term x = Under table stack₀ low depth r ty stack d at term x
+check-term-Inv-loop table stack₀ low₀ depth r ty d₀ at₀ term₀ stack low d at term = InHand table stack₀ low₀ depth r ty stack low d at term
 
 abbrev check-term-μ-loop : check-term-lts.MeasureT-loop
-check-term-μ-loop table stack₀ low depth r ty d₀ at₀ term₀ x₀ stack d at term x = term
+check-term-μ-loop table stack₀ low₀ depth r ty d₀ at₀ term₀ stack low d at term = term
 
 pub +check-args+check-fills+check-term-spec : {M : Type 1} → statement M
 +check-args+check-fills+check-term-spec =
@@ -98,21 +99,23 @@ pub +check-args+check-fills+check-term-spec : {M : Type 1} → statement M
     check-args.Post
     check-args-Inv-loop
     check-args-μ-loop
-    (λ c. search passed-none)
+    (λ c κs. search needs)
+    (λ c. search no-arguments)
+    (λ c. (search passed-none, search needs))
     (λ c κs. search type-of-head-inside)
     (λ c. search needs)
     (λ c. search too-many)
     (λ c κs. search cell-inside)
+    (λ c κs. search result-type)
+    (λ c. search needs)
+    (λ c. search last-remains)
+    (λ c. search needs)
+    (λ c. search last-ends)
     (λ c κs. (search element-less, search (element-asks, domain-type)))
     (λ c. search needs)
     (λ c. search argument-fails)
     (λ c. search rest-less)
-    (λ c. search argument-checks)
-    (λ c κs. c .before .loop .inv .held)
-    (λ c. search needs)
-    (λ c. search too-few)
-    (λ c. search needs)
-    (λ c. search arguments-end))
+    (λ c. (search argument-checks, search needs)))
     (λ t. check-fills-lts.spec (check-fills-calls t)
     (check-fills-at t)
     check-fills.Post
@@ -138,30 +141,17 @@ pub +check-args+check-fills+check-term-spec : {M : Type 1} → statement M
     check-term.Post
     check-term-Inv-loop
     check-term-μ-loop
-    (λ c κs. placed-inside _ _ _ (c .before .before .pre .1 .term))
-    (λ c. search under-none)
+    (λ c. search hand-first)
+    (λ c κs. search term-inside)
     (λ c κs. search type-inside)
     (λ c. search needs)
     (λ c. search no-arrow)
     (λ c. let few : c .before .before .before .read2 .result .a < 4096 = search domain-few in omega arith)
-    (λ c. let room = c .before .before .before .before .before .before .loop .inv .asks .room in omega arith)
+    (λ c. let room = c .before .before .before .before .before .before .before .loop .inv .asks .room in omega arith)
     (λ c. search room-left)
-    (λ c. let room = c .before .before .before .before .before .before .loop .inv .asks .room in omega arith)
-    (λ c κs. search body-inside)
+    (λ c. let room = c .before .before .before .before .before .before .before .loop .inv .asks .room in omega arith)
     (λ c. search body-less)
-    (λ c. search under-more)
-    (λ c κs. search head-inside)
-    (λ c κs. (search arguments-less, search constant-asks))
-    (λ c. search needs)
-    (λ c. search constant-told)
-    (λ c κs. let room = c .before .before .before .before .before .before .before .loop .inv .asks .room in omega arith)
-    (λ c. search needs)
-    (λ c. search needs)
-    (λ c. search needs)
-    (λ c. search variable-free)
-    (λ c κs. (search arguments-less, search variable-asks))
-    (λ c. search needs)
-    (λ c. search variable-told)
+    (λ c. search body-next)
     (λ c κs. search hole-inside)
     (λ c. search needs)
     (λ c. search other-type)
@@ -169,3 +159,15 @@ pub +check-args+check-fills+check-term-spec : {M : Type 1} → statement M
     (λ c κs. (search arguments-less, search hole-asks))
     (λ c. search needs)
     (λ c. search hole-told)
+    (λ c κs. (let room = c .before .before .before .before .before .before .loop .inv .asks .room in omega arith, λ v. search head-inside))
+    (λ c. search needs)
+    (λ c. search needs)
+    (λ c. search needs)
+    (λ c. search head-free)
+    (λ c κs. (search arguments-less, search head-asks))
+    (λ c. search needs)
+    (λ c. search needs)
+    (λ c. search head-told)
+    (λ c. search needs)
+    (λ c. search last-less)
+    (λ c. search last-next)
