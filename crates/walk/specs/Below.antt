@@ -36,6 +36,18 @@ pub record Rigid (R n u : ℕ) (m : Map) (ws ss : List ℕ) (used F d₀ r₀ d 
   pub below : Down R n u m ws ss used F d₀ r₀ d r w
   pub head : Headed (mapAt F m) d w v
 
+-- such a head with arguments, whose first cell is c
+pub record Applied (R n u : ℕ) (m : Map) (ws ss : List ℕ) (used F d₀ r₀ d r : ℕ) (w : Record) (v : ℕ) (c : Record) : Type 0 where
+  pub rigid : Rigid R n u m ws ss used F d₀ r₀ d r w v
+  pub some : w .b ≡ NONE → ⊥
+  pub cell : IsRecord ws (w .b) c
+
+-- where the ways of a walk meet: as many words and solutions as before, and what the walk says
+pub record Met (ws ss ws₁ ss₁ : List ℕ) (Walks : Type 0) : Type 0 where
+  pub same : length ws₁ ≡ length ws
+  pub held : length ss₁ ≡ length ss
+  pub walks : Walks
+
 module _ {R n u : ℕ} {m : Map} {ws ss : List ℕ} {used F : ℕ} where
   pub opens : Opens (ReadyT R n u m ws ss used F) (λ s. Gives R u m ws s used F) R ws ws
   opens =
@@ -65,7 +77,7 @@ module _ {R n u : ℕ} {m : Map} {ws ss : List ℕ} {used F : ℕ} where
     below-since = h .on .on .fine .since
 
     -- an occurrence
-    pub fall-hole : (t : ℕ) → 2 * reach R F (suc r₀) ≡ t → 2 * reach R F r < t
+    pub fall-hole : (t : ℕ) → 3 * reach R F (suc r₀) ≡ t → 3 * reach R F r < t
     fall-hole t z = let le = h .less in omega arith
 
     pub below-hole : w .tag ≡ 9 → ReadyH R n u m ws ss used F d r
@@ -97,25 +109,27 @@ module _ {R n u : ℕ} {m : Map} {ws ss : List ℕ} {used F : ℕ} where
     size-falls : size (w .b) < suc r₀
     size-falls = let le = h .below .less in let s = args-size w v (h .below .is) (h .head) (h .below .on) in omega arith
 
-    pub fall-args : (t : ℕ) → 2 * reach R F (suc r₀) ≡ t → 2 * reach R F (size (w .b)) < t
+    pub fall-args : (t : ℕ) → 3 * reach R F (suc r₀) ≡ t → 3 * reach R F (size (w .b)) < t
     fall-args t z = let s = size-falls in omega arith
 
     pub ends-rigid : (ws₁ ss₁ : List ℕ) (x : Walked) (ws₂ : List ℕ) (y : Walked) (ws₃ : List ℕ) (z : Walked) → WalksL R n u m ws ss used F d (w .b) ws₁ ss₁ x → Then n (over R (w .tag) v) ws₁ x ws₂ y
         → Under n R (d - d₀) ws₂ y ws₃ z → WalksT R n u m ws ss used F d₀ r₀ ws₃ ss₁ z
     ends-rigid ws₁ ss₁ x ws₂ y ws₃ z l g o = ends (h .below) _ _ _ _ _ (walked-rigid w v (h .below .is) (h .head) (h .below .on) ws₁ ss₁ x ws₂ y l g) o
 
-    -- its only argument
-    module _ (ne : w .b ≡ NONE → ⊥) where
-      pub cell-reads : 4 * w .b + 3 < length ws
-      cell-reads = first-read rigid-args ne
+    pub cell-reads : (w .b ≡ NONE → ⊥) → 4 * w .b + 3 < length ws
+    cell-reads ne = first-read rigid-args ne
 
-      module _ (c : Record) (e : IsRecord ws (w .b) c) where
-        pub rigid-only : ReadyT R n u m ws ss used F d (c .a)
-        rigid-only = first-ready rigid-args ne c e
+  -- its only argument
+  module _ {d₀ r₀ d r : ℕ} {w : Record} {v : ℕ} {c : Record} (h : Applied R n u m ws ss used F d₀ r₀ d r w v c) where
+    pub only-ready : ReadyT R n u m ws ss used F d (c .a)
+    only-ready = first-ready (rigid-args (h .rigid)) (h .some) c (h .cell)
 
-        pub fall-only : (t : ℕ) → 2 * reach R F (suc r₀) ≡ t → 2 * reach R F (suc (c .a)) < t
-        fall-only t z = let s = size-falls in let lo = first-lower rigid-args ne c e .0 in omega arith
+    pub fall-only : (t : ℕ) → 3 * reach R F (suc r₀) ≡ t → 3 * reach R F (suc (c .a)) < t
+    fall-only t z = let s = size-falls (h .rigid) in let lo = first-lower (rigid-args (h .rigid)) (h .some) c (h .cell) .0 in omega arith
 
-        pub ends-only : (ws₁ ss₁ : List ℕ) (x : Walked) (ws₂ : List ℕ) (y : Walked) (ws₃ : List ℕ) (z : Walked) (ws₄ : List ℕ) (o : Walked) → c .b ≡ NONE → WalksT R n u m ws ss used F d (c .a) ws₁ ss₁ x
-            → Then n (under R CE NONE) ws₁ x ws₂ y → Then n (over R (w .tag) v) ws₂ y ws₃ z → Under n R (d - d₀) ws₃ z ws₄ o → WalksT R n u m ws ss used F d₀ r₀ ws₄ ss₁ o
-        ends-only ws₁ ss₁ x ws₂ y ws₃ z ws₄ o last t g k l = ends-rigid ws₂ ss₁ y ws₃ z ws₄ o (only-walked rigid-args ne c e ws₁ ss₁ x ws₂ y last t g) k l
+    pub fall-only-hole : (t : ℕ) → 3 * reach R F (suc r₀) ≡ t → 3 * reach R F (c .a) < t
+    fall-only-hole t z = let f = fall-only t z in omega arith
+
+    pub only-args : (ws₁ ss₁ : List ℕ) (x : Walked) (ws₂ : List ℕ) (y : Walked) → c .b ≡ NONE → WalksT R n u m ws ss used F d (c .a) ws₁ ss₁ x → Then n (under R CE NONE) ws₁ x ws₂ y
+        → WalksL R n u m ws ss used F d (w .b) ws₂ ss₁ y
+    only-args = only-walked (rigid-args (h .rigid)) (h .some) c (h .cell)

@@ -36,15 +36,6 @@ ghost use Rattle.invariants.specs.Rise.{raised};
 ghost use Rattle.walk.specs.Ready.{ReadyT, ReadyF, ReadyL, ReadyH};
 ghost use Rattle.walk.specs.Assign.{Assigning, Records};
 
-// What the parts of a walk share: records are written from n on, up to `room`; this hole is solved; the floor is 0 on the side of a pair,
-// where the map leads from places to positions.
-struct Task {
-    n: u32,
-    room: u32,
-    hole: Hole,
-    floor: u32,
-}
-
 // The floor below a solved hole that is met at a record: n on the side of a pair, else past the record. It is there for the proof
 // that the walk ends: no record below the floor is read, and it rises at each solved hole.
 fn raise(n: u32, floor: u32, at: u32) -> u32
@@ -69,169 +60,196 @@ fn head_of(map: Map, above: bool, depth: u32, rec: Record) -> Found
 }
 
 // The walk of a term: a head is looked at before its arguments, an only argument takes no walk of a list, and lambdas are written after the body.
+// Records are written from n on, up to `room`; `hole` is solved; the floor is 0 on the side of a pair, where the map leads from places to positions.
 fn walk_term(
     table: &mut [u32],
     solutions: &mut [u32],
-    task: Task,
+    n: u32,
     used: u32,
+    room: u32,
+    hole: Hole,
+    floor: u32,
     map: Map,
     depth: u32,
     at: u32,
 ) -> Walked
-    requires { ⌜ ReadyT (task .room) (task .n) (task .hole .0) map (now table) (now solutions) used (task .floor) depth at ⌝ }
-    ensures { λ r. ⌜ WalksT (task .room) (task .n) (task .hole .0) map (now (table .entry)) (now (solutions .entry)) used (task .floor) depth at (now (table .exit)) (now (solutions .exit)) r ⌝ }
+    requires { ⌜ ReadyT room n (hole .0) map (now table) (now solutions) used floor depth at ⌝ }
+    ensures { λ r. ⌜ WalksT room n (hole .0) map (now (table .entry)) (now (solutions .entry)) used floor depth at (now (table .exit)) (now (solutions .exit)) r ⌝ }
 {
-    let mut inner = depth;
+    let mut d = depth;
     let mut term = at;
     let mut rec = read(table, at);
     while rec.tag == LA {
-        inner += 1;
+        d += 1;
         term = rec.a;
         rec = read(table, term);
     }
-    let k = inner - depth;
+    let k = d - depth;
     if rec.tag == HA {
-        let hole = walk_hole(table, solutions, task, used, map, inner, term);
-        return then_lambdas(table, task.n, task.room, k, hole);
+        let occ = walk_hole(table, solutions, n, used, room, hole, floor, map, d, term);
+        return then_lambdas(table, n, room, k, occ);
     }
-    let Found::At(head) = head_of(map, task.floor == 0, inner, rec) else {
+    let Found::At(head) = head_of(map, floor == 0, d, rec) else {
         return Walked::Failed(Failure::Escape);
     };
     if rec.b == NONE {
-        let leaf = push(table, task.n, used, task.room, rec.tag, head, NONE);
-        return then_lambdas(table, task.n, task.room, k, leaf);
+        let leaf = push(table, n, used, room, rec.tag, head, NONE);
+        return then_lambdas(table, n, room, k, leaf);
     }
     let cell = read(table, rec.b);
-    if cell.b == NONE {
-        let only = walk_term(table, solutions, task, used, map, inner, cell.a);
-        let args = then_under(table, task.n, task.room, CE, NONE, only);
-        let applied = then_over(table, task.n, task.room, rec.tag, head, args);
-        return then_lambdas(table, task.n, task.room, k, applied);
-    }
-    let args = walk_args(table, solutions, task, used, map, inner, rec.b);
-    let applied = then_over(table, task.n, task.room, rec.tag, head, args);
-    then_lambdas(table, task.n, task.room, k, applied)
+    let args = if cell.b == NONE {
+        let arg = read(table, cell.a);
+        let only = if arg.tag == HA {
+            walk_hole(table, solutions, n, used, room, hole, floor, map, d, cell.a)
+        } else {
+            walk_term(table, solutions, n, used, room, hole, floor, map, d, cell.a)
+        };
+        then_under(table, n, room, CE, NONE, only)
+    } else {
+        walk_args(table, solutions, n, used, room, hole, floor, map, d, rec.b)
+    };
+    let applied = then_over(table, n, room, rec.tag, head, args);
+    then_lambdas(table, n, room, k, applied)
 }
 
 // The walk of a rigid head without arguments: no solution is read or written.
-fn walk_leaf(table: &mut [u32], task: Task, used: u32, map: Map, depth: u32, at: u32) -> Walked
-    requires { ⌜ ReadyF (task .room) (task .n) map (now table) used (task .floor) depth at ⌝ }
-    ensures { λ r. ⌜ WalksF (task .room) (task .n) map (now (table .entry)) used (task .floor) depth at (now (table .exit)) r ⌝ }
-{
-    let rec = read(table, at);
-    let Found::At(head) = head_of(map, task.floor == 0, depth, rec) else {
-        return Walked::Failed(Failure::Escape);
-    };
-    push(table, task.n, used, task.room, rec.tag, head, NONE)
-}
-
-// The walk of an argument: most are rigid heads without arguments; these, and occurrences, take no walk of a term.
-fn walk_argument(
+fn walk_leaf(
     table: &mut [u32],
-    solutions: &mut [u32],
-    task: Task,
+    n: u32,
     used: u32,
+    room: u32,
+    floor: u32,
     map: Map,
     depth: u32,
     at: u32,
 ) -> Walked
-    requires { ⌜ ReadyT (task .room) (task .n) (task .hole .0) map (now table) (now solutions) used (task .floor) depth at ⌝ }
-    ensures { λ r. ⌜ WalksT (task .room) (task .n) (task .hole .0) map (now (table .entry)) (now (solutions .entry)) used (task .floor) depth at (now (table .exit)) (now (solutions .exit)) r ⌝ }
+    requires { ⌜ ReadyF room n map (now table) used floor depth at ⌝ }
+    ensures { λ r. ⌜ WalksF room n map (now (table .entry)) used floor depth at (now (table .exit)) r ⌝ }
+{
+    let rec = read(table, at);
+    let Found::At(head) = head_of(map, floor == 0, depth, rec) else {
+        return Walked::Failed(Failure::Escape);
+    };
+    push(table, n, used, room, rec.tag, head, NONE)
+}
+
+// The walk of an argument: most are rigid heads without arguments, and take no walk of a term.
+fn walk_argument(
+    table: &mut [u32],
+    solutions: &mut [u32],
+    n: u32,
+    used: u32,
+    room: u32,
+    hole: Hole,
+    floor: u32,
+    map: Map,
+    depth: u32,
+    at: u32,
+) -> Walked
+    requires { ⌜ ReadyT room n (hole .0) map (now table) (now solutions) used floor depth at ⌝ }
+    ensures { λ r. ⌜ WalksT room n (hole .0) map (now (table .entry)) (now (solutions .entry)) used floor depth at (now (table .exit)) (now (solutions .exit)) r ⌝ }
 {
     let rec = read(table, at);
     if rec.b == NONE {
         if rec.tag == CA {
-            return walk_leaf(table, task, used, map, depth, at);
+            return walk_leaf(table, n, used, room, floor, map, depth, at);
         }
         if rec.tag == VA {
-            return walk_leaf(table, task, used, map, depth, at);
+            return walk_leaf(table, n, used, room, floor, map, depth, at);
         }
     }
-    if rec.tag == HA {
-        return walk_hole(table, solutions, task, used, map, depth, at);
-    }
-    walk_term(table, solutions, task, used, map, depth, at)
+    walk_side(table, solutions, n, used, room, hole, floor, map, depth, at)
 }
 
 // The walk of an argument list: arguments in order, then their cells from last to first.
 fn walk_args(
     table: &mut [u32],
     solutions: &mut [u32],
-    task: Task,
+    n: u32,
     used: u32,
+    room: u32,
+    hole: Hole,
+    floor: u32,
     map: Map,
     depth: u32,
     list: u32,
 ) -> Walked
-    requires { ⌜ ReadyL (task .room) (task .n) (task .hole .0) map (now table) (now solutions) used (task .floor) depth list ⌝ }
-    ensures { λ r. ⌜ WalksL (task .room) (task .n) (task .hole .0) map (now (table .entry)) (now (solutions .entry)) used (task .floor) depth list (now (table .exit)) (now (solutions .exit)) r ⌝ }
+    requires { ⌜ ReadyL room n (hole .0) map (now table) (now solutions) used floor depth list ⌝ }
+    ensures { λ r. ⌜ WalksL room n (hole .0) map (now (table .entry)) (now (solutions .entry)) used floor depth list (now (table .exit)) (now (solutions .exit)) r ⌝ }
 {
     let mut noted = [0u32; 16];
     let mut k = 0;
-    let mut taken = used;
+    let mut u = used;
     let mut left = list;
     while left != NONE {
         let cell = read(table, left);
-        match walk_argument(table, solutions, task, taken, map, depth, cell.a) {
+        let arg = cell.a;
+        match walk_argument(table, solutions, n, u, room, hole, floor, map, depth, arg) {
             Walked::Failed(e) => {
                 return Walked::Failed(e);
             }
             Walked::Root { root, used: then } => {
                 noted[k] = root;
                 k += 1;
-                taken = then;
+                u = then;
             }
         }
         left = cell.b;
     }
-    push_cells(table, task.n, taken, task.room, &noted, k)
+    push_cells(table, n, u, room, &noted, k)
 }
 
 // The walk at an occurrence: of the hole itself, of a solved hole, of another unsolved one.
 fn walk_hole(
     table: &mut [u32],
     solutions: &mut [u32],
-    task: Task,
+    n: u32,
     used: u32,
+    room: u32,
+    hole: Hole,
+    floor: u32,
     map: Map,
     depth: u32,
     at: u32,
 ) -> Walked
-    requires { ⌜ ReadyH (task .room) (task .n) (task .hole .0) map (now table) (now solutions) used (task .floor) depth at ⌝ }
-    ensures { λ r. ⌜ WalksH (task .room) (task .n) (task .hole .0) map (now (table .entry)) (now (solutions .entry)) used (task .floor) depth at (now (table .exit)) (now (solutions .exit)) r ⌝ }
+    requires { ⌜ ReadyH room n (hole .0) map (now table) (now solutions) used floor depth at ⌝ }
+    ensures { λ r. ⌜ WalksH room n (hole .0) map (now (table .entry)) (now (solutions .entry)) used floor depth at (now (table .exit)) (now (solutions .exit)) r ⌝ }
 {
     let occ = read(table, at);
-    if occ.a == task.hole.0 {
+    if occ.a == hole.0 {
         return Walked::Failed(Failure::Occurs);
     }
-    let next = follow(table, map, task.floor == 0, depth, occ.b);
+    let next = follow(table, map, floor == 0, depth, occ.b);
     let t = solution_of(solutions, Hole(occ.a));
     if t == NONE {
-        return keep_placed(table, solutions, task.n, used, task.room, Hole(occ.a), next);
+        return keep_placed(table, solutions, n, used, room, Hole(occ.a), next);
     }
-    let mut below = task;
-    below.floor = raise(task.n, task.floor, at);
-    let walked = walk_term(table, solutions, below, used, next, 0, t);
+    let below = raise(n, floor, at);
+    let walked = walk_term(table, solutions, n, used, room, hole, below, next, 0, t);
     walked
 }
 
-// The walk of the other side of a pair: an occurrence takes no walk of a term.
+// The walk of a side or of an argument: an occurrence takes no walk of a term.
 fn walk_side(
     table: &mut [u32],
     solutions: &mut [u32],
-    task: Task,
+    n: u32,
     used: u32,
+    room: u32,
+    hole: Hole,
+    floor: u32,
     map: Map,
+    depth: u32,
     at: u32,
 ) -> Walked
-    requires { ⌜ ReadyT (task .room) (task .n) (task .hole .0) map (now table) (now solutions) used (task .floor) 0 at ⌝ }
-    ensures { λ r. ⌜ WalksT (task .room) (task .n) (task .hole .0) map (now (table .entry)) (now (solutions .entry)) used (task .floor) 0 at (now (table .exit)) (now (solutions .exit)) r ⌝ }
+    requires { ⌜ ReadyT room n (hole .0) map (now table) (now solutions) used floor depth at ⌝ }
+    ensures { λ r. ⌜ WalksT room n (hole .0) map (now (table .entry)) (now (solutions .entry)) used floor depth at (now (table .exit)) (now (solutions .exit)) r ⌝ }
 {
     let rec = read(table, at);
     if rec.tag == HA {
-        return walk_hole(table, solutions, task, used, map, 0, at);
+        return walk_hole(table, solutions, n, used, room, hole, floor, map, depth, at);
     }
-    walk_term(table, solutions, task, used, map, 0, at)
+    walk_term(table, solutions, n, used, room, hole, floor, map, depth, at)
 }
 
 // What was written becomes the hole's solution, or the failure.
@@ -263,13 +281,8 @@ pub fn assign(
     ensures { λ r. ⌜ Does² n (assignOf room left right) (now (table .entry)) (now (solutions .entry)) used (now (table .exit)) (now (solutions .exit)) r ⌝ }
 {
     let occ = read(table, left);
+    let hole = Hole(occ.a);
     let map = arguments(table, occ.b);
-    let task = Task {
-        n,
-        room,
-        hole: Hole(occ.a),
-        floor: 0,
-    };
-    let walked = walk_side(table, solutions, task, used, map, right);
-    then_record(solutions, Hole(occ.a), walked)
+    let walked = walk_side(table, solutions, n, used, room, hole, 0, map, 0, right);
+    then_record(solutions, hole, walked)
 }
