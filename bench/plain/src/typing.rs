@@ -38,42 +38,59 @@ impl Typing<'_> {
         binders.get(from_outside).map_or(NONE, |&at| u32::from(at))
     }
 
-    fn term(&mut self, mut term: u32, mut at: u32) -> bool {
+    fn term(&mut self, term: u32, at: u32) -> bool {
         let around = self.binders.items().len();
-        let mut record = self.record(term);
-        while record[0] == LA {
-            let [tag, domain, result, _] = self.record(at);
-            if tag != AR {
-                return false;
-            }
-            self.binders.push(domain as u16);
-            (term, at) = (record[1], result);
-            record = self.record(term);
-        }
-        let [tag, head, list, _] = record;
-        let checks = match tag {
-            CA => self.rigid(self.record(head)[1], list, at),
-            VA => self.rigid(self.variable(head), list, at),
-            _ => self.hole(term, head, list, at),
-        };
+        let checks = self.within(term, at);
         self.binders.cut(around);
         checks
     }
 
-    /// A head of this type applied to a list has the asked base type.
+    /// Goes on with a lambda's body and with a head's last argument; leaves the binders met on the stack.
     #[inline(always)]
-    fn rigid(&mut self, mut head: u32, mut list: u32, at: u32) -> bool {
-        while list != NONE {
+    fn within(&mut self, mut term: u32, mut at: u32) -> bool {
+        loop {
+            let [tag, head, list, _] = self.record(term);
+            match tag {
+                LA => {
+                    let [tag, domain, result, _] = self.record(at);
+                    if tag != AR {
+                        return false;
+                    }
+                    self.binders.push(domain as u16);
+                    (term, at) = (head, result);
+                }
+                CA | VA => {
+                    let head = if tag == CA { self.record(head)[1] } else { self.variable(head) };
+                    if list == NONE {
+                        return head == at && self.record(at)[0] == BT;
+                    }
+                    match self.last(head, list, at) {
+                        Some(last) => (term, at) = last,
+                        None => return false,
+                    }
+                }
+                _ => return self.hole(term, head, list, at),
+            }
+        }
+    }
+
+    /// The last argument and its type, if a head of this type applied to the list has the asked base type and the arguments
+    /// before the last check.
+    #[inline(always)]
+    fn last(&mut self, mut head: u32, mut list: u32, at: u32) -> Option<(u32, u32)> {
+        loop {
             let [_, argument, rest, _] = self.record(list);
             let Some(&[AR, domain, result, _]) = self.table.get(head as usize) else {
-                return false;
+                return None;
             };
+            if rest == NONE {
+                return (result == at && self.record(at)[0] == BT).then_some((argument, domain));
+            }
             if !self.term(argument, domain) {
-                return false;
+                return None;
             }
             (head, list) = (result, rest);
         }
-        head == at && self.record(at)[0] == BT
     }
 
     #[inline(always)]
