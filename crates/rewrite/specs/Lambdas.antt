@@ -4,11 +4,9 @@ use mathlib.Core.Path.{_≡_, refl, _∙_}
 use mathlib.Core.List.{List}
 use native.Mathlib.Omega.{arith}
 use lib.ListN.{length}
-use Rattle.rules.specs.declared.Failure.{Failure}
 use Rattle.store.specs.declared.Walked.{Walked}
-use Rattle.store.specs.declared.Walked.the-variants.{Failed}
-use Rattle.rules.specs.Store.{Out, fails, _>>=_}
-use Rattle.store.specs.Said.{Since, since-failed, Then, shown, under}
+use Rattle.rules.specs.Store.{Out, _>>=_}
+use Rattle.store.specs.Said.{Since, Then, shown, under}
 
 -- k lambdas over what was written
 unfoldable pub lambdas : ℕ → ℕ → Out ℕ → Out ℕ
@@ -23,19 +21,10 @@ pub lambdas-one : (R k j : ℕ) (o : Out ℕ) → k ≡ suc j → lambdas R k o 
 unfolding lambdas
 lambdas-one R k j o e = rw e
 
-lambdas-failed : (R k : ℕ) (ws ss : List ℕ) (e : Failure) → lambdas R k (fails ws ss e) ≡ fails ws ss e
-unfolding lambdas _>>=_
-lambdas-failed R zero ws ss e = refl
-lambdas-failed R (suc k) ws ss e = lambdas-failed R k ws ss e
-
 -- words and answer, whatever the solutions are
 pub record Under (n R k : ℕ) (ws : List ℕ) (w : Walked) (ws₁ : List ℕ) (x : Walked) : Type 0 where
   pub run : (ss : List ℕ) → lambdas R k (shown ws ss w) ≡ shown ws₁ ss x
   pub grown : Since n x
-
--- no lambda is written over a failure
-pub under-failed : (n R k : ℕ) (ws : List ℕ) (e : Failure) → Under n R k ws (Failed e) ws (Failed e)
-under-failed n R k ws e = record { run = λ ss. lambdas-failed R k ws ss e; grown = since-failed n e }
 
 -- with `left` lambdas to write
 pub record Turn (n R k : ℕ) (ws₀ : List ℕ) (w₀ : Walked) (ws : List ℕ) (w : Walked) (left : ℕ) : Type 0 where

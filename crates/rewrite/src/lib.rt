@@ -1,4 +1,4 @@
-// Terms written anew, as the walk, copying and showing share it: where variables are led that have a place, and lambdas after a body.
+// Terms written anew, as copying and showing share it: where variables are led that have a place, and lambdas after a body.
 use places::Map;
 use places::empty;
 use places::variable_of;

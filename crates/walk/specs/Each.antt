@@ -100,7 +100,7 @@ module _ (R n u : ℕ) (m : Map) (ws₀ ss₀ : List ℕ) (used₀ F d l₀ : �
         pub room-left : k < 16
         room-left = let f = few in omega arith
 
-        pub turn-falls : (t : ℕ) → 3 * reach R F (size l₀) ≡ t → 3 * reach R F (suc (w .a)) + 2 < t
+        pub turn-falls : (t : ℕ) → 4 * reach R F (size l₀) ≡ t → 4 * reach R F (suc (w .a)) + 3 < t
         turn-falls t z = let a = lower .0 in let b = h .less in omega arith
 
         pub turn-less : size (w .b) < size l

@@ -54,6 +54,11 @@ pub record ReadyT (R n u : ℕ) (m : Map) (ws ss : List ℕ) (used F d r : ℕ) 
   pub within : (F ≡ 0 → ⊥) → scope ≤ m .len
   pub known : WalkKnown R (store ws ss used) scope d r
 
+-- a term that is no lambda
+pub record ReadyB (R n u : ℕ) (m : Map) (ws ss : List ℕ) (used F d r : ℕ) : Type 0 where
+  pub on : ReadyT R n u m ws ss used F d r
+  pub plain : tag ws r ≡ 6 → ⊥
+
 -- a rigid head without arguments
 pub record ReadyF (R n : ℕ) (m : Map) (ws : List ℕ) (used F d r : ℕ) : Type 0 where
   pub reads : 4 * r + 3 < length ws
@@ -80,14 +85,17 @@ pub record ReadyH (R n u : ℕ) (m : Map) (ws ss : List ℕ) (used F d r : ℕ) 
 pub on-part : {R n u : ℕ} {m : Map} {home : ℕ → ℕ} {ws ss : List ℕ} {used F d k : ℕ} (d₁ k₁ : ℕ) → On R n u m home ws ss used F d k → d₁ + k₁ ≤ d + k → On R n u m home ws ss used F d₁ k₁
 on-part d₁ k₁ o h = let f = o .fits in record { fine = o .fine; hole = o .hole; whole = o .whole; top = o .top; low = o .low; fits = omega arith }
 
--- the cycle's measure is three times the reach, one more at a side, and two more at an argument
-pub fall-argument : (R F r t : ℕ) → 3 * reach R F (suc r) + 2 ≡ t → 3 * reach R F (suc r) + 1 < t
+-- the cycle's measure is four times the reach at a list, at an occurrence and at a body, one more at a term, two more at a side, and three more at an argument
+pub fall-argument : (R F r t : ℕ) → 4 * reach R F (suc r) + 3 ≡ t → 4 * reach R F (suc r) + 2 < t
 fall-argument R F r t z = omega arith
 
-pub fall-side : (R F r t : ℕ) → 3 * reach R F (suc r) + 1 ≡ t → 3 * reach R F (suc r) < t
+pub fall-side : (R F r t : ℕ) → 4 * reach R F (suc r) + 2 ≡ t → 4 * reach R F (suc r) + 1 < t
 fall-side R F r t z = omega arith
 
-pub fall-occurrence : (R F r t : ℕ) → 3 * reach R F (suc r) + 1 ≡ t → 3 * reach R F r < t
+pub fall-hole : (R F r t : ℕ) → 4 * reach R F (suc r) ≡ t → 4 * reach R F r < t
+fall-hole R F r t z = omega arith
+
+pub fall-occurrence : (R F r t : ℕ) → 4 * reach R F (suc r) + 2 ≡ t → 4 * reach R F r < t
 fall-occurrence R F r t z = omega arith
 
 -- the map that follows an occurrence's arguments has a position for each
@@ -223,7 +231,7 @@ module _ {R n u : ℕ} {m : Map} {ws ss : List ℕ} {used F d r : ℕ} where
       let st₁ : getD ss (fieldA ws r) NONE ≡ t = rw (← e .a-is) st in
       rw (g, st₁) at (rises R n (h .on .home) (store ws ss used) F r (h .on .on .fine) (h .on .is .below) (h .occ) (h .on .is .up) (λ q. z (sym st₁ ∙ q)))
 
-  pub fall-hop : (w : Record) (t G k : ℕ) → 3 * reach R F r ≡ k → IsRecord ws r w → getD ss (w .a) NONE ≡ t → (t ≡ NONE → ⊥) → raised n F r ≡ G → ReadyH R n u m ws ss used F d r → 3 * reach R G (suc t) < k
+  pub fall-hop : (w : Record) (t G k : ℕ) → 4 * reach R F r ≡ k → IsRecord ws r w → getD ss (w .a) NONE ≡ t → (t ≡ NONE → ⊥) → raised n F r ≡ G → ReadyH R n u m ws ss used F d r → 4 * reach R G (suc t) + 1 < k
   fall-hop w t G k y e st z g h = let a = risen w t G e st z g h .falls in omega arith
 
   -- the floor there is no 0

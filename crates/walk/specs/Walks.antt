@@ -1,7 +1,7 @@
 -- The walk's contracts and its big-step rules.
 use Prim.Native.Nat.{ℕ, suc, _+_, _<_, _≤_}
-use mathlib.Core.Path.{_≡_, sym, _∙_}
-use mathlib.Core.List.{List}
+use mathlib.Core.Path.{_≡_, refl, sym, _∙_}
+use mathlib.Core.List.{List, [], _∷_}
 use mathlib.Core.Bool.{false}
 use native.Mathlib.Omega.{arith}
 use lib.ListN.{length, getD, length-map}
@@ -16,9 +16,9 @@ use Rattle.table.specs.declared.Record.{Record}
 use Rattle.table.specs.Reading.{IsRecord}
 use Rattle.places.specs.declared.Map.{Map}
 use Rattle.rules.specs.Words.{NONE, tag, fieldA, fieldB, elements, arguments, variables}
-use Rattle.rules.specs.Store.{Out, _>>=_, fail, push, solved, solution}
+use Rattle.rules.specs.Store.{Store, Out, _>>=_, fail, push, solved, solution}
 use Rattle.rules.specs.Map.{Map as Pairs, follow}
-use Rattle.rules.specs.Rewrite.{writeAll, writeTerm}
+use Rattle.rules.specs.Rewrite.{Writer, writeAll, writeTerm}
 use Rattle.rules.specs.Walk.{keepPlaced, walkHole, walk}
 use Rattle.laws.specs.Lists.{size}
 use Rattle.invariants.specs.Rise.{reach}
@@ -26,8 +26,13 @@ use Rattle.store.specs.Said.{Does, Does², store, shown, Since, since-failed, T
 use Rattle.places.specs.Maps.{mapOf}
 use Rattle.places.specs.Lists.{varsOf}
 use Rattle.places.specs.Follow.{Followed}
-use Rattle.rewrite.specs.Levels.{fuel, Headed, level-lambda, level-rigid, level-leaf, level-escape, level-hole}
+use Rattle.rewrite.specs.Levels.{fuel, Headed, of-constant, level-lambda, level-rigid, level-leaf, level-escape, level-hole}
 use Rattle.walk.specs.Head.{headOf, head-nowhere}
+
+-- one argument is written, and then its cell
+one-written : (write : Writer) (R : ℕ) (m : Pairs) (d x : ℕ) (s : Store) → writeAll write R m d (x ∷ []) s ≡ (write m d x s >>= under R 5 NONE)
+unfolding writeAll _>>=_
+one-written write R m d x s = refl
 
 -- the map on the side of a pair, under floor 0, and inside a solution
 abbrev pub mapAt : ℕ → Map → Pairs
@@ -68,6 +73,16 @@ module _ (R n u : ℕ) (m : Map) (ws ss : List ℕ) (used F d r : ℕ) where
     walk-lambda o t lt h f hf =
         let q = fuel f _ hf in
         rw (q .1) (level-lambda (walkHole (walk (q .0) R u) R u) (walk (q .0) R u) R ws (mapAt F m) d r (store ws ss used) w e t ∙ rw (h (q .0) (let z = q .2 in omega arith)))
+
+    -- the same for an only argument, after which its cell and the constant are written
+    pub walk-only : (o : Out ℕ) (x : ℕ) → w .tag ≡ 7 → elements ws (w .b) ≡ x ∷ [] → reach R F (suc x) < reach R F (suc r) → Gives R u m ws ss used F d x o
+        → Gives R u m ws ss used F d r ((o >>= under R 5 NONE) >>= over R 7 (w .a))
+    unfolding walk
+    walk-only o x t el lt h f hf =
+        let q = fuel f _ hf in
+        let g : walk (q .0) R u (mapAt F m) d x (store ws ss used) ≡ o = h (q .0) (let z = q .2 in omega arith) in
+        rw (q .1) (level-rigid (walkHole (walk (q .0) R u) R u) (walk (q .0) R u) R ws (mapAt F m) d r (store ws ss used) w e (w .a) (of-constant t refl)
+        ∙ rw (el, t, one-written (walk (q .0) R u) R (mapAt F m) d x (store ws ss used), g))
 
     pub walk-rigid : (v : ℕ) (ws₁ ss₁ : List ℕ) (x : Walked) (ws₂ : List ℕ) (y : Walked) → Headed (mapAt F m) d w v → reach R F (size (w .b)) < reach R F (suc r)
         → WalksL R n u m ws ss used F d (w .b) ws₁ ss₁ x → Then n (over R (w .tag) v) ws₁ x ws₂ y → WalksT R n u m ws ss used F d r ws₂ ss₁ y

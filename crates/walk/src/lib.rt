@@ -5,7 +5,6 @@ use places::Map;
 use places::arguments;
 use places::follow;
 use places::place_of;
-use rewrite::then_lambdas;
 use rules::Failure;
 use rules::Found;
 use store::Walked;
@@ -24,16 +23,18 @@ use table::VA;
 use table::Variable;
 use table::read;
 ghost use mathlib.Core.Path.{_≡_};
-ghost use Prim.Native.Nat.{_<_};
-ghost use lib.ListN.{length};
+ghost use mathlib.Core.List.{[], _∷_};
+ghost use Prim.Native.Nat.{_*_, _<_, _≤_};
+ghost use lib.ListN.{length, take};
 ghost use Rattle.rules.specs.Walk.{assign as assignOf};
-ghost use Rattle.store.specs.Said.{Does²};
+ghost use Rattle.store.specs.Said.{Since, Does²};
 ghost use Rattle.places.specs.Maps.{mapOf};
 ghost use Rattle.places.specs.Looking.{Looks, Within};
 ghost use Rattle.walk.specs.Head.{headOf};
 ghost use Rattle.walk.specs.Walks.{WalksT, WalksF, WalksL, WalksH};
 ghost use Rattle.invariants.specs.Rise.{raised};
-ghost use Rattle.walk.specs.Ready.{ReadyT, ReadyF, ReadyL, ReadyH};
+ghost use Rattle.walk.specs.Ready.{ReadyT, ReadyB, ReadyF, ReadyL, ReadyH};
+ghost use Rattle.walk.specs.Layers.{Layering, Outermost, Layered};
 ghost use Rattle.walk.specs.Assign.{Assigning, Records};
 
 // The floor below a solved hole that is met at a record: n on the side of a pair, else past the record. It is there for the proof
@@ -59,7 +60,72 @@ fn head_of(map: Map, above: bool, depth: u32, rec: Record) -> Found
     Found::At(rec.a)
 }
 
-// The walk of a term: a head is looked at before its arguments, an only argument takes no walk of a list, and lambdas are written after the body.
+// What stands outermost in a term: a lambda, a constant applied to an only argument, or nothing that is noted.
+enum Layer {
+    Lambda(u32),
+    Only { constant: u32, argument: u32 },
+    Body,
+}
+
+// The outermost layer of a term.
+fn layer_of(table: &[u32], at: u32) -> Layer
+    requires { ⌜ Layering (now table) at ⌝ }
+    ensures { λ r. ⌜ Outermost (now (table .entry)) at r ⌝ }
+{
+    let rec = read(table, at);
+    if rec.tag == LA {
+        return Layer::Lambda(rec.a);
+    }
+    if rec.tag != CA {
+        return Layer::Body;
+    }
+    if rec.b == NONE {
+        return Layer::Body;
+    }
+    let cell = read(table, rec.b);
+    if cell.b != NONE {
+        return Layer::Body;
+    }
+    Layer::Only {
+        constant: rec.a,
+        argument: cell.a,
+    }
+}
+
+// The records of one layer after what was written inside it, or the failure: a lambda for NONE, else the only argument's cell and the constant.
+fn then_layer(table: &mut [u32], n: u32, room: u32, note: u32, inside: Walked) -> Walked
+    requires { ⌜ (4 * room ≤ length (now table)) × Since n inside ⌝ }
+    ensures { λ r. ⌜ Layered n room (note ∷ []) (now (table .entry)) inside (now (table .exit)) r ⌝ }
+{
+    if note == NONE {
+        return then_under(table, n, room, LA, 0, inside);
+    }
+    let list = then_under(table, n, room, CE, NONE, inside);
+    then_over(table, n, room, CA, note, list)
+}
+
+// The records of the first k layers noted, the innermost first.
+fn then_layers(
+    table: &mut [u32],
+    n: u32,
+    room: u32,
+    noted: &[u32],
+    k: usize,
+    inside: Walked,
+) -> Walked
+    requires { ⌜ (4 * room ≤ length (now table)) × Since n inside × (k ≤ length (now noted)) ⌝ }
+    ensures { λ r. ⌜ Layered n room (take k (now (noted .entry))) (now (table .entry)) inside (now (table .exit)) r ⌝ }
+{
+    let mut walked = inside;
+    let mut i = k;
+    while 0 < i {
+        i -= 1;
+        walked = then_layer(table, n, room, noted[i], walked);
+    }
+    walked
+}
+
+// The walk of a term: up to 16 layers are noted on the way to its body, and written after it.
 // Records are written from n on, up to `room`; `hole` is solved; the floor is 0 on the side of a pair, where the map leads from places to positions.
 fn walk_term(
     table: &mut [u32],
@@ -76,40 +142,73 @@ fn walk_term(
     requires { ⌜ ReadyT room n (hole .0) map (now table) (now solutions) used floor depth at ⌝ }
     ensures { λ r. ⌜ WalksT room n (hole .0) map (now (table .entry)) (now (solutions .entry)) used floor depth at (now (table .exit)) (now (solutions .exit)) r ⌝ }
 {
+    let mut noted = [0u32; 16];
+    let mut k = 0;
     let mut d = depth;
     let mut term = at;
-    let mut rec = read(table, at);
-    while rec.tag == LA {
-        d += 1;
-        term = rec.a;
-        rec = read(table, term);
+    loop {
+        if k == 16 {
+            let rest = walk_term(table, solutions, n, used, room, hole, floor, map, d, term);
+            return then_layers(table, n, room, &noted, k, rest);
+        }
+        match layer_of(table, term) {
+            Layer::Lambda(body) => {
+                noted[k] = NONE;
+                d += 1;
+                term = body;
+            }
+            Layer::Only { constant, argument } => {
+                noted[k] = constant;
+                term = argument;
+            }
+            Layer::Body => {
+                let body = walk_body(table, solutions, n, used, room, hole, floor, map, d, term);
+                return then_layers(table, n, room, &noted, k, body);
+            }
+        }
+        k += 1;
     }
-    let k = d - depth;
+}
+
+// The walk of a term that is no lambda: a head is looked at before its arguments.
+fn walk_body(
+    table: &mut [u32],
+    solutions: &mut [u32],
+    n: u32,
+    used: u32,
+    room: u32,
+    hole: Hole,
+    floor: u32,
+    map: Map,
+    depth: u32,
+    at: u32,
+) -> Walked
+    requires { ⌜ ReadyB room n (hole .0) map (now table) (now solutions) used floor depth at ⌝ }
+    ensures { λ r. ⌜ WalksT room n (hole .0) map (now (table .entry)) (now (solutions .entry)) used floor depth at (now (table .exit)) (now (solutions .exit)) r ⌝ }
+{
+    let rec = read(table, at);
     if rec.tag == HA {
-        let occ = walk_hole(table, solutions, n, used, room, hole, floor, map, d, term);
-        return then_lambdas(table, n, room, k, occ);
+        return walk_hole(table, solutions, n, used, room, hole, floor, map, depth, at);
     }
-    let Found::At(head) = head_of(map, floor == 0, d, rec) else {
+    let Found::At(head) = head_of(map, floor == 0, depth, rec) else {
         return Walked::Failed(Failure::Escape);
     };
     if rec.b == NONE {
-        let leaf = push(table, n, used, room, rec.tag, head, NONE);
-        return then_lambdas(table, n, room, k, leaf);
+        return push(table, n, used, room, rec.tag, head, NONE);
     }
-    let cell = read(table, rec.b);
-    let args = if cell.b == NONE {
-        let arg = read(table, cell.a);
-        let only = if arg.tag == HA {
-            walk_hole(table, solutions, n, used, room, hole, floor, map, d, cell.a)
-        } else {
-            walk_term(table, solutions, n, used, room, hole, floor, map, d, cell.a)
-        };
-        then_under(table, n, room, CE, NONE, only)
-    } else {
-        walk_args(table, solutions, n, used, room, hole, floor, map, d, rec.b)
-    };
-    let applied = then_over(table, n, room, rec.tag, head, args);
-    then_lambdas(table, n, room, k, applied)
+    let args = walk_args(
+        table,
+        solutions,
+        n,
+        used,
+        room,
+        hole,
+        floor,
+        map,
+        depth,
+        rec.b,
+    );
+    then_over(table, n, room, rec.tag, head, args)
 }
 
 // The walk of a rigid head without arguments: no solution is read or written.
@@ -126,11 +225,11 @@ fn walk_leaf(
     requires { ⌜ ReadyF room n map (now table) used floor depth at ⌝ }
     ensures { λ r. ⌜ WalksF room n map (now (table .entry)) used floor depth at (now (table .exit)) r ⌝ }
 {
-    let rec = read(table, at);
-    let Found::At(head) = head_of(map, floor == 0, depth, rec) else {
+    let leaf = read(table, at);
+    let Found::At(head) = head_of(map, floor == 0, depth, leaf) else {
         return Walked::Failed(Failure::Escape);
     };
-    push(table, n, used, room, rec.tag, head, NONE)
+    push(table, n, used, room, leaf.tag, head, NONE)
 }
 
 // The walk of an argument: most are rigid heads without arguments, and take no walk of a term.
