@@ -63,7 +63,7 @@ module _ (Held : ℕ → Type 0) (so : ℕ → ℕ → Bool) (ws st₀ : List �
         pub rest-less : size (cell .b) < size list
         rest-less = rw (e .b-is) (term-cell ws list (p .left) z .falls)
 
-        pub element-less : (k : ℕ) → size l ≡ k → cell .a + 1 < k
+        pub element-less : (k : ℕ) → 2 * size l ≡ k → 2 * (cell .a) + 2 < k
         element-less k h =
             let lo = term-cell ws list (p .left) z .lower in
             let s = size-real list z in
@@ -159,12 +159,13 @@ module _ (ws st₀ : List ℕ) (low₀ d l head ty : ℕ) (st : List ℕ) (low l
           last-remains y =
               let none = among-end ws (cell .b) n in
               let asks = element-asks _ _ _ _ _ _ _ _ _ _ _ _ p z cell e (t .a) domain-type in
+              let less = element-less _ _ _ _ _ _ _ _ _ _ _ _ p z cell e _ refl in
               let few = p .few in
               let lowest = p .lowest in
               let one = one-cell _ _ _ _ _ _ _ _ _ _ _ _ p z cell e in
               record {
                 asks = asks;
-                lower = element-less _ _ _ _ _ _ _ _ _ _ _ _ p z cell e (size l) refl;
+                lower = omega arith;
                 keeps = p .keeps;
                 same = p .same ∙ last-turn ∙ rw (y, both-yes, p .keeps);
                 lowest = omega arith;

@@ -1,18 +1,18 @@
 -- A term, turn by turn: what is left to check, under a lambda or in a last argument, and what its head asks.
 use Prim.Native.Nat.{ℕ, _+_, _*_, _<_, _≤_, min}
 use mathlib.Core.Path.{_≡_, refl, sym, _∙_}
-use mathlib.Core.List.{List, _∷_}
+use mathlib.Core.List.{List}
 use mathlib.Core.Bool.{Bool, false}
 use mathlib.Core.Logic.{_⊎_, inl, inr}
 use native.Mathlib.Omega.{arith}
 use borrow.Author.Tests.{eq-eqb, ne-eqb, lt-ltb, le-ltb}
-use lib.ListN.{length, set, length-set}
+use lib.ListN.{length}
 use Rattle.table.specs.declared.Record.{Record}
 use Rattle.table.specs.Reading.{IsRecord}
 use Rattle.rules.specs.declared.Found.{Found}
 use Rattle.rules.specs.declared.Found.the-variants.{At, Nowhere}
 use Rattle.rules.specs.Lists.{both, enough}
-use Rattle.rules.specs.Words.{AR, LA, CA, VA, HA, tag, fieldA, fieldB, has, isType, isTerm, arguments}
+use Rattle.rules.specs.Words.{LA, CA, VA, HA, tag, fieldA, fieldB, has, isType, isTerm, arguments}
 use Rattle.rules.specs.Typing.{applied, checkTerm, checks}
 use Rattle.rules.specs.Pattern.{offence}
 use Rattle.laws.specs.Tests.{false-true}
@@ -20,13 +20,13 @@ use Rattle.laws.specs.Lists.{size}
 use Rattle.laws.specs.Members.{more, every-at}
 use Rattle.laws.specs.Forms.{is-lambda, is-constant, is-variable, is-hole, term-of, check-lambda, check-constant, check-variable, check-hole}
 use Rattle.laws.specs.Unrolled.{checks-unrolled}
-use Rattle.laws.specs.Places.{TypeAt, ListAt, placed-inside, placed-few, domain-at, result-at, body-at, arguments-at, constant-at, constant-inside, hole-at, context-at}
+use Rattle.laws.specs.Places.{TypeAt, ListAt, placed-inside, domain-at, result-at, body-at, arguments-at, constant-at, constant-inside, hole-at, context-at}
 use Rattle.patterns.specs.Occurrences.{occurrence}
 use Rattle.typing.specs.declared.Left.{Left}
 use Rattle.typing.specs.declared.Left.the-variants.{Said, Last}
-use Rattle.typing.specs.Stack.{binders, typeOf, binders-push, binders-pop}
+use Rattle.typing.specs.Stack.{binders, typeOf, binders-pop}
 use Rattle.typing.specs.Offences.{among-terms}
-use Rattle.typing.specs.Asks.{applies, headType, filled, TermAsks, ArgsAsk, Told, Remains, Leaves}
+use Rattle.typing.specs.Asks.{applies, headType, filled, Bound, Binds, TermAsks, ArgsAsk, Told, Remains, Leaves}
 use Rattle.typing.proofs.Heads.{head-variable, head-constant, type-found, type-missing}
 use Rattle.typing.proofs.Occurrences.{lambda-offence, constant-offence, variable-offence, hole-offence}
 
@@ -58,9 +58,12 @@ module _ (ws st₀ : List ℕ) (low₀ d₀ r ty : ℕ) (st : List ℕ) (low d a
   refuses : here ≡ false → Tells st low false
   refuses e = record { says = sym (one ∙ e); keeps = p .keeps st refl; lowest = λ t. absurd (false-true t) }
 
+  pub answered : (b : Bool) (low₁ : ℕ) (st₁ : List ℕ) → Told d (checks enough ws (binders st d) term at) (offence enough ws term) st low st₁ low₁ b → Tells st₁ low₁ b
+  answered b low₁ st₁ h =
+      record { says = h .says ∙ sym (p .same); keeps = p .keeps st₁ (h .keeps); lowest = λ t. let q = h .lowest t in let l = p .lowest in omega arith }
+
   answers : (so b : Bool) (off low₁ : ℕ) (st₁ : List ℕ) → here ≡ so → offence enough ws term ≡ off → Told d so off st low st₁ low₁ b → Tells st₁ low₁ b
-  answers so b off low₁ st₁ e o h =
-      record { says = h .says ∙ sym (one ∙ e); keeps = p .keeps st₁ (h .keeps); lowest = λ t. let q = h .lowest t in let l = p .lowest in omega arith }
+  answers so b off low₁ st₁ e o h = answered b low₁ st₁ (rw (sym (p .same) ∙ one ∙ e, o) h)
 
   -- a lower term, whose check is that of the term in hand, is the next in hand
   goes-on : (st₁ : List ℕ) (low₁ d₁ at₁ term₁ : ℕ) → TermAsks ws st₁ low₁ d₁ term₁ at₁ → length st₁ ≡ length st → term₁ < term → ((e : List ℕ) → binders e d₁ ≡ binders st₁ d₁ → binders e d ≡ binders st d)
@@ -72,11 +75,14 @@ module _ (ws st₀ : List ℕ) (low₀ d₀ r ty : ℕ) (st : List ℕ) (low d a
   pub term-inside : 4 * term + 3 < length ws
   term-inside = placed-inside _ ws term (p .asks .term)
 
-  pub type-inside : 4 * at + 3 < length ws
-  type-inside = placed-inside _ ws at (p .asks .type)
+  pub room-left : d < length st
+  room-left = let room = p .asks .room in omega arith
+
+  pub hole-less : (k : ℕ) → 2 * r + 2 ≡ k → 2 * term + 1 < k
+  hole-less k h = let low = p .lower in omega arith
 
   module _ (x : Record) (j : IsRecord ws term x) where
-    tagged : (k : ℕ) → x .tag ≡ k → tag ws term ≡ k
+    pub tagged : (k : ℕ) → x .tag ≡ k → tag ws term ≡ k
     tagged k e = sym (j .tag-is) ∙ e
 
     -- A lambda
@@ -85,55 +91,48 @@ module _ (ws st₀ : List ℕ) (low₀ d₀ r ty : ℕ) (st : List ℕ) (low d a
       pub body-less : x .a < term
       body-less = rw (j .a-is) (body-at ws term (p .asks .term) (tagged LA e) .0)
 
-      pub room-left : d < length st
-      room-left = let room = p .asks .room in omega arith
+      module _ (st₁ : List ℕ) (f : Found) (v : Binds ws st d at st₁ f) where
+        pub no-arrow : f ≡ Nowhere → Tells st₁ low false
+        unfolding both has Binds
+        no-arrow n =
+            let w : Binds ws st d at st₁ Nowhere = rw n at v in
+            rw (w .1) (refuses (check-lambda (checks enough ws) ws (binders st d) term at (tagged LA e) ∙ rw (ne-eqb _ _ (w .0))))
 
-      module _ (y : Record) (i : IsRecord ws at y) where
-        pub no-arrow : (y .tag ≡ AR → ⊥) → Tells st low false
-        unfolding both has
-        no-arrow z = refuses (check-lambda (checks enough ws) ws (binders st d) term at (tagged LA e) ∙ rw (← i .tag-is, ne-eqb _ _ z))
+        module _ (body : ℕ) (n : f ≡ At body) where
+          bound : Bound ws st d at st₁ body
+          unfolding Binds
+          bound = rw n at v
 
-        module _ (k : y .tag ≡ AR) where
-          arrow : tag ws at ≡ AR
-          arrow = sym (i .tag-is) ∙ k
-
-          pub domain-few : y .a < 4096
-          domain-few = rw (i .a-is) (placed-few _ ws _ (domain-at ws at (p .asks .type) arrow))
-
-          pushed : binders (set st d (y .a)) (d + 1) ≡ fieldA ws at ∷ binders st d
-          pushed = binders-push st d (y .a) room-left ∙ rw (i .a-is)
-
-          pub body-next : InHand ws st₀ low₀ d₀ r ty (set st d (y .a)) low (d + 1) (y .b) (x .a)
+          pub body-next : length st₁ ≡ length st → InHand ws st₀ low₀ d₀ r ty st₁ low (d + 1) body (x .a)
           unfolding both has
-          body-next =
-              let long : length (set st d (y .a)) ≡ length st = simp length-set in
+          body-next long =
               let less = body-less in
               let room = p .asks .room in
-              goes-on (set st d (y .a)) low (d + 1) (y .b) (x .a)
+              goes-on st₁ low (d + 1) body (x .a)
               (record {
                 term = rw (j .a-is) (body-at ws term (p .asks .term) (tagged LA e) .1);
-                type = rw (i .b-is) (result-at ws at (p .asks .type) arrow);
-                bound = rw pushed (more (domain-at ws at (p .asks .type) arrow) (p .asks .bound));
+                type = rw (bound .body-is) (result-at ws at (p .asks .type) (bound .arrow));
+                bound = rw (bound .pushed) (more (domain-at ws at (p .asks .type) (bound .arrow)) (p .asks .bound));
                 room = omega arith;
                 few = p .asks .few;
               })
-              long less (λ s q. binders-pop s st d (y .a) room-left q)
-              (check-lambda (checks enough ws) ws (binders st d) term at (tagged LA e) ∙ rw (arrow, pushed, j .a-is, i .b-is))
+              long less (λ s q. binders-pop s st d _ (q ∙ bound .pushed))
+              (check-lambda (checks enough ws) ws (binders st d) term at (tagged LA e) ∙ rw (bound .arrow, bound .pushed, j .a-is, bound .body-is))
               (rw (lambda-offence ws term (p .asks .term) (tagged LA e), j .a-is))
 
-    -- An applied hole, constant or variable
+    -- An applied hole, constant or variable: its arguments
 
     module _ (z : x .tag ≡ LA → ⊥) where
       listed : (size (fieldB ws term) < term + 1) × ListAt (isTerm ws) ws (fieldB ws term)
       listed = arguments-at ws term (p .asks .term) (λ e. z (j .tag-is ∙ e))
 
-      pub arguments-list : ListAt (isTerm ws) ws (x .b)
+      arguments-list : ListAt (isTerm ws) ws (x .b)
       arguments-list = rw (j .b-is) (listed .1)
 
       list-less : size (x .b) < term + 1
       list-less = rw (j .b-is) (listed .0)
 
-      pub arguments-less : (k : ℕ) → r + 1 ≡ k → size (x .b) < k
+      pub arguments-less : (k : ℕ) → 2 * r + 2 ≡ k → 2 * size (x .b) < k
       arguments-less k h = let s = list-less in let low = p .lower in omega arith
 
       arguments-ask : (Held : ℕ → Type 0) (h now : ℕ) → Held h → now ≤ low → ArgsAsk Held ws st now d (x .b) h
@@ -143,87 +142,100 @@ module _ (ws st₀ : List ℕ) (low₀ d₀ r ty : ℕ) (st : List ℕ) (low d a
           let room = p .asks .room in
           record { list = arguments-list; held = q; bound = p .asks .bound; room = omega arith; few = omega arith }
 
-      module _ (e : x .tag ≡ HA) where
-        pub hole-inside : 4 * (x .a) + 3 < length ws
-        hole-inside = rw (j .a-is) (placed-inside _ ws _ (hole-at ws term (p .asks .term) (tagged HA e)))
+    -- A hole occurrence
 
-        module _ (u : Record) (i : IsRecord ws (x .a) u) where
-          pub other-type : (u .b ≡ at → ⊥) → Tells st low false
-          unfolding both
-          other-type n = refuses (check-hole (checks enough ws) ws (binders st d) term at (tagged HA e) ∙ rw (← j .a-is, ← i .b-is, ne-eqb _ _ n))
+    module _ (e : tag ws term ≡ HA) where
+      no-lambda : x .tag ≡ LA → ⊥
+      no-lambda l = let t = j .tag-is in omega arith
 
-          pub hole-asks : (now o : ℕ) → now ≡ min low o → ArgsAsk (ListAt (isType ws) ws) ws st now d (x .b) (u .a)
-          hole-asks now o q = arguments-ask (ListAt (isType ws) ws) (u .a) now (rw (i .a-is, j .a-is) (context-at ws _ (hole-at ws term (p .asks .term) (tagged HA e)))) (omega arith)
+      pub hole-inside : 4 * (x .a) + 3 < length ws
+      hole-inside = rw (j .a-is) (placed-inside _ ws _ (hole-at ws term (p .asks .term) e))
 
-          pub hole-told : (now low₁ : ℕ) (st₁ : List ℕ) (b : Bool) → u .b ≡ at → now ≡ min low (occurrence ws term (x .b))
-              → Told d (filled ws (binders st d) (x .b) (u .a)) (among-terms ws (x .b)) st now st₁ low₁ b
-              → Tells st₁ low₁ b
-          unfolding filled arguments both
-          hole-told now low₁ st₁ b n o h =
-              answers (filled ws (binders st d) (x .b) (u .a)) b (min (occurrence ws term (x .b)) (among-terms ws (x .b))) low₁ st₁
-              (check-hole (checks enough ws) ws (binders st d) term at (tagged HA e) ∙ rw (← j .a-is, ← i .b-is, eq-eqb _ _ n, ← j .b-is, ← i .a-is))
-              (hole-offence ws term (p .asks .term) (tagged HA e) ∙ rw (← j .b-is))
-              record { says = h .says; keeps = h .keeps; lowest = λ t. let q = h .lowest t in omega arith }
+      pub hole-list : ListAt (isTerm ws) ws (x .b)
+      hole-list = arguments-list no-lambda
 
-      module _ (y : x .tag ≡ HA → ⊥) where
-        -- a rigid head is a variable or a constant
-        rigid : (tag ws term ≡ VA) ⊎ (tag ws term ≡ CA)
-        rigid = elim (term-of ws term (p .asks .term .kind)) [ is-lambda e ↦ absurd (z (j .tag-is ∙ e)) | is-constant e ↦ inr e | is-variable e ↦ inl e | is-hole e ↦ absurd (y (j .tag-is ∙ e)) ]
+      pub fills-less : (k : ℕ) → 2 * term + 1 ≡ k → 2 * size (x .b) < k
+      fills-less k h = let s = list-less no-lambda in omega arith
 
-        variable-type : tag ws term ≡ VA → typeOf (binders st d) (x .a) ≡ headType ws (binders st d) x
-        variable-type e = head-variable ws (binders st d) x _ (j .tag-is ∙ e) refl
+      module _ (u : Record) (i : IsRecord ws (x .a) u) where
+        pub other-type : (u .b ≡ at → ⊥) → Tells st low false
+        unfolding both
+        other-type n = refuses (check-hole (checks enough ws) ws (binders st d) term at e ∙ rw (← j .a-is, ← i .b-is, ne-eqb _ _ n))
 
-        constant-type : tag ws term ≡ CA → At (fieldA ws (x .a)) ≡ headType ws (binders st d) x
-        constant-type e = head-constant ws (binders st d) x _ (λ v. let k = j .tag-is in omega arith) refl
+        pub hole-asks : (now o : ℕ) → now ≡ min low o → ArgsAsk (ListAt (isType ws) ws) ws st now d (x .b) (u .a)
+        hole-asks now o q = arguments-ask no-lambda (ListAt (isType ws) ws) (u .a) now (rw (i .a-is, j .a-is) (context-at ws _ (hole-at ws term (p .asks .term) e))) (omega arith)
 
-        pub head-inside : (x .tag ≡ VA → ⊥) → 4 * (x .a) + 3 < length ws
-        head-inside v = elim rigid [ inl e ↦ absurd (v (j .tag-is ∙ e)) | inr e ↦ rw (j .a-is) (constant-inside ws term (p .asks .term) e) ]
+        pub hole-told : (now low₁ : ℕ) (st₁ : List ℕ) (b : Bool) → u .b ≡ at → now ≡ min low (occurrence ws term (x .b))
+            → Told d (filled ws (binders st d) (x .b) (u .a)) (among-terms ws (x .b)) st now st₁ low₁ b
+            → Tells st₁ low₁ b
+        unfolding filled arguments both
+        hole-told now low₁ st₁ b n o h =
+            answers (filled ws (binders st d) (x .b) (u .a)) b (min (occurrence ws term (x .b)) (among-terms ws (x .b))) low₁ st₁
+            (check-hole (checks enough ws) ws (binders st d) term at e ∙ rw (← j .a-is, ← i .b-is, eq-eqb _ _ n, ← j .b-is, ← i .a-is))
+            (hole-offence ws term (p .asks .term) e ∙ rw (← j .b-is))
+            record { says = h .says; keeps = h .keeps; lowest = λ t. let q = h .lowest t in omega arith }
 
-        rigid-offence : offence enough ws term ≡ among-terms ws (x .b)
-        rigid-offence = rw (j .b-is) (elim rigid [ inl e ↦ variable-offence ws term (p .asks .term) e | inr e ↦ constant-offence ws term (p .asks .term) e ])
+    -- An applied constant or variable
 
-        module _ (f : Found) (q : f ≡ headType ws (binders st d) x) where
-          pub head-free : f ≡ Nowhere → Tells st low false
-          unfolding both
-          head-free n = go rigid
+    module _ (z : x .tag ≡ LA → ⊥) (y : x .tag ≡ HA → ⊥) where
+      -- a rigid head is a variable or a constant
+      rigid : (tag ws term ≡ VA) ⊎ (tag ws term ≡ CA)
+      rigid = elim (term-of ws term (p .asks .term .kind)) [ is-lambda e ↦ absurd (z (j .tag-is ∙ e)) | is-constant e ↦ inr e | is-variable e ↦ inl e | is-hole e ↦ absurd (y (j .tag-is ∙ e)) ]
+
+      variable-type : tag ws term ≡ VA → typeOf (binders st d) (x .a) ≡ headType ws (binders st d) x
+      variable-type e = head-variable ws (binders st d) x _ (j .tag-is ∙ e) refl
+
+      constant-type : tag ws term ≡ CA → At (fieldA ws (x .a)) ≡ headType ws (binders st d) x
+      constant-type e = head-constant ws (binders st d) x _ (λ v. let k = j .tag-is in omega arith) refl
+
+      pub head-inside : (x .tag ≡ VA → ⊥) → 4 * (x .a) + 3 < length ws
+      head-inside v = elim rigid [ inl e ↦ absurd (v (j .tag-is ∙ e)) | inr e ↦ rw (j .a-is) (constant-inside ws term (p .asks .term) e) ]
+
+      rigid-offence : offence enough ws term ≡ among-terms ws (x .b)
+      rigid-offence = rw (j .b-is) (elim rigid [ inl e ↦ variable-offence ws term (p .asks .term) e | inr e ↦ constant-offence ws term (p .asks .term) e ])
+
+      module _ (f : Found) (q : f ≡ headType ws (binders st d) x) where
+        pub head-free : f ≡ Nowhere → Tells st low false
+        unfolding both
+        head-free n = go rigid
+          where
+            go : (tag ws term ≡ VA) ⊎ (tag ws term ≡ CA) → Tells st low false
+            go (inl e) = refuses (check-variable (checks enough ws) ws (binders st d) term at e ∙ rw (← j .a-is, le-ltb _ _ (type-missing (binders st d) (x .a) (variable-type e ∙ sym q ∙ n))))
+            go (inr e) = let w : _≡_ {A = ℕ} 0 1 = cc (constant-type e) in absurd (omega arith)
+
+        module _ (h : ℕ) (n : f ≡ At h) where
+          rigid-check : (TypeAt ws h) × (here ≡ applies ws (binders st d) at (x .b) h)
+          unfolding applied applies arguments both
+          rigid-check = go rigid
             where
-              go : (tag ws term ≡ VA) ⊎ (tag ws term ≡ CA) → Tells st low false
-              go (inl e) = refuses (check-variable (checks enough ws) ws (binders st d) term at e ∙ rw (← j .a-is, le-ltb _ _ (type-missing (binders st d) (x .a) (variable-type e ∙ sym q ∙ n))))
-              go (inr e) = let w : _≡_ {A = ℕ} 0 1 = cc (constant-type e) in absurd (omega arith)
+              go : (tag ws term ≡ VA) ⊎ (tag ws term ≡ CA) → (TypeAt ws h) × (here ≡ applies ws (binders st d) at (x .b) h)
+              go (inl e) =
+                  let found = type-found (binders st d) (x .a) h (variable-type e ∙ sym q ∙ n) in (
+                    rw (found .1) at (every-at (TypeAt ws) (binders st d) (x .a) (found .0) (p .asks .bound)),
+                    check-variable (checks enough ws) ws (binders st d) term at e ∙ rw (← j .a-is, lt-ltb _ _ (found .0), found .1, ← j .b-is),
+                  )
+              go (inr e) =
+                  let is : fieldA ws (x .a) ≡ h = cc (constant-type e) in (
+                    rw (← is, j .a-is) (constant-at ws term (p .asks .term) e),
+                    check-constant (checks enough ws) ws (binders st d) term at e ∙ rw (← j .a-is, is, ← j .b-is),
+                  )
 
-          module _ (h : ℕ) (n : f ≡ At h) where
-            rigid-check : (TypeAt ws h) × (here ≡ applies ws (binders st d) at (x .b) h)
-            unfolding applied applies arguments both
-            rigid-check = go rigid
-              where
-                go : (tag ws term ≡ VA) ⊎ (tag ws term ≡ CA) → (TypeAt ws h) × (here ≡ applies ws (binders st d) at (x .b) h)
-                go (inl e) =
-                    let found = type-found (binders st d) (x .a) h (variable-type e ∙ sym q ∙ n) in (
-                      rw (found .1) at (every-at (TypeAt ws) (binders st d) (x .a) (found .0) (p .asks .bound)),
-                      check-variable (checks enough ws) ws (binders st d) term at e ∙ rw (← j .a-is, lt-ltb _ _ (found .0), found .1, ← j .b-is),
-                    )
-                go (inr e) =
-                    let is : fieldA ws (x .a) ≡ h = cc (constant-type e) in (
-                      rw (← is, j .a-is) (constant-at ws term (p .asks .term) e),
-                      check-constant (checks enough ws) ws (binders st d) term at e ∙ rw (← j .a-is, is, ← j .b-is),
-                    )
+          pub head-asks : ArgsAsk (TypeAt ws) ws st low d (x .b) h
+          head-asks = arguments-ask z (TypeAt ws) h low (rigid-check .0) (omega arith)
 
-            pub head-asks : ArgsAsk (TypeAt ws) ws st low d (x .b) h
-            head-asks = arguments-ask (TypeAt ws) h low (rigid-check .0) (omega arith)
+          module _ (st₁ : List ℕ) (low₁ : ℕ) (o : Left) (v : Leaves ws st low d (x .b) h at st₁ low₁ o) where
+            pub head-told : (b : Bool) → o ≡ Said b → Tells st₁ low₁ b
+            unfolding Leaves
+            head-told b e = answers _ b _ low₁ st₁ (rigid-check .1) rigid-offence (rw e at v)
 
-            module _ (st₁ : List ℕ) (low₁ : ℕ) (o : Left) (v : Leaves ws st low d (x .b) h at st₁ low₁ o) where
-              pub head-told : (b : Bool) → o ≡ Said b → Tells st₁ low₁ b
+            module _ (t u : ℕ) (e : o ≡ Last t u) where
+              left : Remains ws st low d (x .b) h at st₁ low₁ t u
               unfolding Leaves
-              head-told b e = answers _ b _ low₁ st₁ (rigid-check .1) rigid-offence (rw e at v)
+              left = rw e at v
 
-              module _ (t u : ℕ) (e : o ≡ Last t u) where
-                left : Remains ws st low d (x .b) h at st₁ low₁ t u
-                unfolding Leaves
-                left = rw e at v
+              pub last-less : t < term
+              last-less = let s = list-less z in let l = left .lower in omega arith
 
-                pub last-less : t < term
-                last-less = let s = list-less in let l = left .lower in omega arith
-
-                pub last-next : length st₁ ≡ length st → InHand ws st₀ low₀ d₀ r ty st₁ low₁ d u t
-                last-next k =
-                    goes-on st₁ low₁ d u t (left .asks) k last-less (λ s w. w ∙ left .keeps) (rigid-check .1 ∙ left .same) (rw rigid-offence (left .lowest))
+              pub last-next : length st₁ ≡ length st → InHand ws st₀ low₀ d₀ r ty st₁ low₁ d u t
+              last-next k =
+                  goes-on st₁ low₁ d u t (left .asks) k last-less (λ s w. w ∙ left .keeps) (rigid-check .1 ∙ left .same) (rw rigid-offence (left .lowest))

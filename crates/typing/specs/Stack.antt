@@ -32,10 +32,8 @@ pub binders-push : (st : List ℕ) (d v : ℕ) → d < length st → binders (se
 unfolding binders
 binders-push st d v h = rw (add-one, getD-set-same st d v 0 h, binders-above st d d v (omega arith))
 
-pub binders-pop : (e st : List ℕ) (d v : ℕ) → d < length st → binders e (d + 1) ≡ binders (set st d v) (d + 1) → binders e d ≡ binders st d
-binders-pop e st d v h q =
-    let p : binders e (d + 1) ≡ getD e d 0 ∷ binders e d = rw add-one (unfold binders in refl) in
-    cc (binders-push st d v h)
+pub binders-pop : (e st : List ℕ) (d v : ℕ) → binders e (d + 1) ≡ v ∷ binders st d → binders e d ≡ binders st d
+binders-pop e st d v q = let p : binders e (d + 1) ≡ getD e d 0 ∷ binders e d = rw add-one (unfold binders in refl) in cc
 
 pub binders-count : (st : List ℕ) (d : ℕ) → length (binders st d) ≡ d
 unfolding binders

@@ -14,13 +14,13 @@ ghost use mathlib.Core.Path.{_≡_};
 ghost use Prim.Native.Nat.{_+_, _*_, _<_, _≤_};
 ghost use lib.ListN.{length};
 ghost use Rattle.rules.specs.Lists.{enough};
-ghost use Rattle.rules.specs.Words.{VA, isType};
+ghost use Rattle.rules.specs.Words.{VA, HA, tag, isType};
 ghost use Rattle.rules.specs.Typing.{checks};
 ghost use Rattle.rules.specs.Pattern.{offence};
 ghost use Rattle.laws.specs.Places.{TypeAt, ListAt};
 ghost use Rattle.typing.specs.Stack.{binders, typeOf};
 ghost use Rattle.typing.specs.Offences.{among-terms};
-ghost use Rattle.typing.specs.Asks.{named, alone, headType, filled, IsFinal, TermAsks, ArgsAsk, EquationAsks, JudgeAsks, Told, Offends, Leaves};
+ghost use Rattle.typing.specs.Asks.{named, alone, headType, filled, IsFinal, Binds, TermAsks, ArgsAsk, EquationAsks, JudgeAsks, Told, Offends, Leaves};
 ghost use Rattle.typing.specs.Judging.{Judges};
 
 // A head's final type, and how many arguments it asks.
@@ -130,6 +130,19 @@ fn head_type(table: &[u32], stack: &[u16], depth: usize, x: Record) -> Found
     Found::At(constant.a)
 }
 
+// A lambda's binder goes on the stack, if the type asked is an arrow: the type asked of the body.
+fn bind(table: &[u32], stack: &mut [u16], depth: usize, ty: u32) -> Found
+    requires { ⌜ (TypeAt (now table) ty) × (depth < length (now stack)) ⌝ }
+    ensures { λ r. ⌜ Binds (now (table .entry)) (now (stack .entry)) depth ty (now (stack .exit)) r ⌝ }
+{
+    let x = read(table, ty);
+    if x.tag != AR {
+        return Found::Nowhere;
+    }
+    stack[depth] = x.a as u16;
+    Found::At(x.b)
+}
+
 // A term checks at a type under the binders on the stack. The check goes on with a lambda's body, and with a rigid head's last argument.
 fn check_term(
     table: &[u32],
@@ -148,37 +161,49 @@ fn check_term(
     loop {
         let x = read(table, term);
         if x.tag == LA {
-            let y = read(table, at);
-            if y.tag != AR {
+            let Found::At(body) = bind(table, stack, d, at) else {
                 return false;
-            }
-            stack[d] = y.a as u16;
+            };
             d += 1;
-            at = y.b;
+            at = body;
             term = x.a;
             continue;
         }
         if x.tag == HA {
-            let hole = read(table, x.a);
-            if hole.b != at {
-                return false;
-            }
-            *low = offended(table, *low, term, x.b);
-            return check_fills(table, stack, low, d, x.b, hole.a);
+            return check_hole(table, stack, low, d, term, at);
         }
         let Found::At(head) = head_type(table, stack, d, x) else {
             return false;
         };
         match check_args(table, stack, low, d, x.b, head, at) {
-            Left::Said(b) => {
-                return b;
-            }
+            Left::Said(b) => return b,
             Left::Last { term: last, ty: t } => {
                 term = last;
                 at = t;
             }
         }
     }
+}
+
+// A hole occurrence checks at a type: its hole has that type, and its arguments fill the hole's context.
+fn check_hole(
+    table: &[u32],
+    stack: &mut [u16],
+    low: &mut u32,
+    depth: usize,
+    at: u32,
+    ty: u32,
+) -> bool
+    requires { ⌜ (TermAsks (now table) (now stack) (now low) depth at ty) × (tag (now table) at ≡ HA) ⌝ }
+    ensures { λ b. ⌜ Told depth (checks enough (now (table .entry)) (binders (now (stack .entry)) depth) at ty) (offence enough (now (table .entry)) at) (now (stack .entry)) (now (low .entry)) (now (stack .exit)) (now (low .exit)) b ⌝ }
+{
+    let x = read(table, at);
+    let hole = read(table, x.a);
+    if hole.b != ty {
+        return false;
+    }
+    *low = offended(table, *low, at, x.b);
+    check_fills(table, stack, low, depth, x.b, hole.a)
 }
 
 // An argument list has exactly as many arguments as the head's type asks, each checks, and what is left of the head's type is the

@@ -1,7 +1,7 @@
--- `typing::check_args`, `typing::check_fills` and `typing::check_term` meet their contracts.
+-- `typing::check_args`, `typing::check_fills`, `typing::check_hole` and `typing::check_term` meet their contracts.
 use borrow.Author.Needs.{needs}
 use native.Mathlib.Omega.{arith}
-use Prim.Native.Nat.{ℕ, _<_, _+_}
+use Prim.Native.Nat.{ℕ, _<_, _+_, _*_}
 use mathlib.Core.Path.{_≡_}
 use Rattle.rules.specs.Words.{NONE, isType}
 use Rattle.laws.specs.Lists.{size}
@@ -9,34 +9,41 @@ use Rattle.laws.specs.Places.{TypeAt, ListAt}
 use Rattle.typing.specs.Stack.{binders}
 use Rattle.typing.specs.Asks.{applies, filled}
 use Rattle.typing.proofs.Arguments.{Passed, passed-none, cell-inside, element-inside, rest-less, element-less, element-asks, no-arguments, head-inside as type-of-head-inside, too-many, domain-type, result-type, last-remains, last-ends, argument-fails, argument-checks, context-ends, context-short, context-inside, context-type, bare-fills, filling-fails, filling-checks}
-use Rattle.typing.proofs.Terms.{InHand, hand-first, term-inside, type-inside, body-less, room-left, no-arrow, domain-few, body-next, arguments-list, arguments-less, hole-inside, other-type, hole-asks, hole-told, head-inside, head-free, head-asks, head-told, last-less, last-next}
+use Rattle.typing.proofs.Terms.{InHand, hand-first, answered, term-inside, room-left, hole-less, tagged, body-less, no-arrow, body-next, arguments-less, hole-inside, hole-list, fills-less, other-type, hole-asks, hole-told, head-inside, head-free, head-asks, head-told, last-less, last-next}
 use borrow.Fn.Kinds.{In}
 use borrow.Fn.PlainCycle.{Measures, is, falls, and}
 use Rattle.typing.proofs.check_args.Reads as check-args
 use Rattle.typing.proofs.check_args.Kinds as check-args-kinds
-use Rattle.typing.proofs.+check_args+check_fills+check_term.Lts-check_args as check-args-lts
+use Rattle.typing.proofs.+check_args+check_fills+check_hole+check_term.Lts-check_args as check-args-lts
 use Rattle.typing.proofs.check_fills.Reads as check-fills
 use Rattle.typing.proofs.check_fills.Kinds as check-fills-kinds
-use Rattle.typing.proofs.+check_args+check_fills+check_term.Lts-check_fills as check-fills-lts
+use Rattle.typing.proofs.+check_args+check_fills+check_hole+check_term.Lts-check_fills as check-fills-lts
+use Rattle.typing.proofs.check_hole.Reads as check-hole
+use Rattle.typing.proofs.check_hole.Kinds as check-hole-kinds
+use Rattle.typing.proofs.+check_args+check_fills+check_hole+check_term.Lts-check_hole as check-hole-lts
 use Rattle.typing.proofs.check_term.Reads as check-term
 use Rattle.typing.proofs.check_term.Kinds as check-term-kinds
-use Rattle.typing.proofs.+check_args+check_fills+check_term.Lts-check_term as check-term-lts
+use Rattle.typing.proofs.+check_args+check_fills+check_hole+check_term.Lts-check_term as check-term-lts
 use Rattle.patterns.proofs.offended.Reads as offended-reads
 use Rattle.table.proofs.read.Reads as read-reads
+use Rattle.typing.proofs.bind.Reads as bind-reads
 use Rattle.typing.proofs.ends.Reads as ends-reads
 use Rattle.typing.proofs.head_type.Reads as head-type-reads
 use Rattle.typing.proofs.names.Reads as names-reads
-use Rattle.typing.proofs.+check_args+check_fills+check_term.{statement}
-use Rattle.typing.proofs.+check_args+check_fills+check_term.Tie.{close}
+use Rattle.typing.proofs.+check_args+check_fills+check_hole+check_term.{statement}
+use Rattle.typing.proofs.+check_args+check_fills+check_hole+check_term.Tie.{close}
 
 abbrev μ-check-args : Measures 3 check-args-kinds.ps ℕ
-μ-check-args κs a = size (a .1 .1 .1 .1 .0)
+μ-check-args κs a = 2 * size (a .1 .1 .1 .1 .0)
 
 abbrev μ-check-fills : Measures 3 check-fills-kinds.ps ℕ
-μ-check-fills κs a = size (a .1 .1 .1 .1 .0)
+μ-check-fills κs a = 2 * size (a .1 .1 .1 .1 .0)
+
+abbrev μ-check-hole : Measures 3 check-hole-kinds.ps ℕ
+μ-check-hole κs a = 2 * (a .1 .1 .1 .1 .0) + 1
 
 abbrev μ-check-term : Measures 3 check-term-kinds.ps ℕ
-μ-check-term κs a = a .1 .1 .1 .1 .0 + 1
+μ-check-term κs a = 2 * (a .1 .1 .1 .1 .0) + 2
 
 abbrev check-args-at : ℕ → In 3 check-args-kinds.ps
 check-args-at t =
@@ -54,6 +61,14 @@ abbrev check-fills-below : ℕ → In 3 check-fills-kinds.ps
 check-fills-below t =
     and 3 check-fills-kinds.ps (falls 3 check-fills-kinds.ps _<_ μ-check-fills t) check-fills.Pre
 
+abbrev check-hole-at : ℕ → In 3 check-hole-kinds.ps
+check-hole-at t =
+    and 3 check-hole-kinds.ps (is 3 check-hole-kinds.ps μ-check-hole t) check-hole.Pre
+
+abbrev check-hole-below : ℕ → In 3 check-hole-kinds.ps
+check-hole-below t =
+    and 3 check-hole-kinds.ps (falls 3 check-hole-kinds.ps _<_ μ-check-hole t) check-hole.Pre
+
 abbrev check-term-at : ℕ → In 3 check-term-kinds.ps
 check-term-at t =
     and 3 check-term-kinds.ps (is 3 check-term-kinds.ps μ-check-term t) check-term.Pre
@@ -70,9 +85,13 @@ abbrev check-fills-calls : ℕ → check-fills-lts.Claims
 check-fills-calls t =
     (read-reads.Asked, read-reads.Learnt, names-reads.Asked, names-reads.Learnt, check-term-below t, check-term.Post)
 
+abbrev check-hole-calls : ℕ → check-hole-lts.Claims
+check-hole-calls t =
+    (read-reads.Asked, read-reads.Learnt, offended-reads.Asked, offended-reads.Learnt, check-fills-below t, check-fills.Post)
+
 abbrev check-term-calls : ℕ → check-term-lts.Claims
 check-term-calls t =
-    (read-reads.Asked, read-reads.Learnt, offended-reads.Asked, offended-reads.Learnt, check-fills-below t, check-fills.Post, head-type-reads.Asked, head-type-reads.Learnt, check-args-below t, check-args.Post)
+    (read-reads.Asked, read-reads.Learnt, bind-reads.Asked, bind-reads.Learnt, check-hole-below t, check-hole.Post, head-type-reads.Asked, head-type-reads.Learnt, check-args-below t, check-args.Post)
 
 abbrev check-args-Inv-loop : check-args-lts.InvT-loop
 check-args-Inv-loop table stack₀ low₀ depth l head ty list₀ rest₀ stack low list rest = (Passed (TypeAt table) (applies table (binders stack₀ depth) ty) table stack₀ low₀ depth l head stack low list rest) × (list ≡ NONE → ⊥)
@@ -92,9 +111,9 @@ check-term-Inv-loop table stack₀ low₀ depth r ty d₀ at₀ term₀ stack lo
 abbrev check-term-μ-loop : check-term-lts.MeasureT-loop
 check-term-μ-loop table stack₀ low₀ depth r ty d₀ at₀ term₀ stack low d at term = term
 
-pub +check-args+check-fills+check-term-spec : {M : Type 1} → statement M
-+check-args+check-fills+check-term-spec =
-    close μ-check-args μ-check-fills μ-check-term (λ t. check-args-lts.spec (check-args-calls t)
+pub +check-args+check-fills+check-hole+check-term-spec : {M : Type 1} → statement M
++check-args+check-fills+check-hole+check-term-spec =
+    close μ-check-args μ-check-fills μ-check-hole μ-check-term (λ t. check-args-lts.spec (check-args-calls t)
     (check-args-at t)
     check-args.Post
     check-args-Inv-loop
@@ -136,6 +155,16 @@ pub +check-args+check-fills+check-term-spec : {M : Type 1} → statement M
     (λ c. search bare-fills)
     (λ c. search needs)
     (λ c. search context-ends))
+    (λ t. check-hole-lts.spec (check-hole-calls t)
+    (check-hole-at t)
+    check-hole.Post
+    (λ c κs. search (term-inside, hand-first))
+    (λ c κs. search (hole-inside, hand-first))
+    (λ c. search (other-type, hand-first))
+    (λ c κs. search (hole-list, hand-first))
+    (λ c κs. (search (fills-less, hand-first), search (hole-asks, hand-first)))
+    (λ c. search needs)
+    (λ c. search (hole-told, hand-first)))
     λ t. check-term-lts.spec (check-term-calls t)
     (check-term-at t)
     check-term.Post
@@ -143,22 +172,17 @@ pub +check-args+check-fills+check-term-spec : {M : Type 1} → statement M
     check-term-μ-loop
     (λ c. search hand-first)
     (λ c κs. search term-inside)
-    (λ c κs. search type-inside)
+    (λ c κs. (search needs, search room-left))
+    (λ c. search needs)
+    (λ c. search needs)
     (λ c. search needs)
     (λ c. search no-arrow)
-    (λ c. let few : c .before .before .before .read2 .result .a < 4096 = search domain-few in omega arith)
-    (λ c. let room = c .before .before .before .before .before .before .before .loop .inv .asks .room in omega arith)
-    (λ c. search room-left)
-    (λ c. let room = c .before .before .before .before .before .before .before .loop .inv .asks .room in omega arith)
+    (λ c. let room = c .before .before .before .before .before .before .before .before .before .before .loop .inv .asks .room in omega arith)
     (λ c. search body-less)
     (λ c. search body-next)
-    (λ c κs. search hole-inside)
+    (λ c κs. (search hole-less, (search needs, search tagged)))
     (λ c. search needs)
-    (λ c. search other-type)
-    (λ c κs. search arguments-list)
-    (λ c κs. (search arguments-less, search hole-asks))
-    (λ c. search needs)
-    (λ c. search hole-told)
+    (λ c. search answered)
     (λ c κs. (let room = c .before .before .before .before .before .before .loop .inv .asks .room in omega arith, λ v. search head-inside))
     (λ c. search needs)
     (λ c. search needs)
