@@ -45,17 +45,11 @@ fn go_on(
     let mut r = right;
     loop {
         match take_step(table, solutions, queue, n, u, room, cap, g, l, r) {
-            Step::Failed(e) => {
-                return Ran::Failed(e);
-            }
-            Step::On {
-                left: l1,
-                right: r1,
-                used: u1,
-            } => {
-                l = l1;
-                r = r1;
-                u = u1;
+            Step::Failed(e) => return Ran::Failed(e),
+            Step::On { left, right, used } => {
+                l = left;
+                r = right;
+                u = used;
             }
             Step::Done { ring: g1, used: u1 } => {
                 let count = g1.count;
