@@ -98,9 +98,7 @@ fn copy_args(
     while left != NONE {
         let cell = read(table, left);
         match copy_term(table, n, taken, room, map, depth, cell.a) {
-            Walked::Failed(e) => {
-                return Walked::Failed(e);
-            }
+            Walked::Failed(e) => return Walked::Failed(e),
             Walked::Root { root, used: then } => {
                 noted[k] = root;
                 k += 1;
@@ -150,9 +148,7 @@ pub fn expand(table: &mut [u32], solutions: &[u32], n: u32, used: u32, room: u32
             };
         }
         match copy_solution(table, n, taken, room, side, solution) {
-            Walked::Failed(e) => {
-                return Walked::Failed(e);
-            }
+            Walked::Failed(e) => return Walked::Failed(e),
             Walked::Root { root, used: then } => {
                 side = root;
                 taken = then;

@@ -78,9 +78,7 @@ pub fn lowest_unknown(file: &[u8], n: u32) -> Found
             Found::At(_) => {
                 r += 1;
             }
-            Found::Nowhere => {
-                return Found::At(r);
-            }
+            Found::Nowhere => return Found::At(r),
         }
     }
     Found::Nowhere

@@ -43,9 +43,7 @@ pub fn push_cells(
     while 0 < i {
         i -= 1;
         match push(table, n, taken, room, CE, noted[i], list) {
-            Walked::Failed(e) => {
-                return Walked::Failed(e);
-            }
+            Walked::Failed(e) => return Walked::Failed(e),
             Walked::Root { root, used: then } => {
                 list = root;
                 taken = then;
@@ -87,9 +85,7 @@ fn push_variables(table: &mut [u32], n: u32, used: u32, room: u32, map: Map, fro
             continue;
         }
         match push(table, n, taken, room, VA, v, NONE) {
-            Walked::Failed(e) => {
-                return Walked::Failed(e);
-            }
+            Walked::Failed(e) => return Walked::Failed(e),
             Walked::Root { root, used: then } => {
                 noted[k] = root;
                 k += 1;

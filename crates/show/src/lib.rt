@@ -110,9 +110,7 @@ fn show_args(
     while left != NONE {
         let cell = read(table, left);
         match show_term(table, solutions, output, task, taken, map, depth, cell.a) {
-            Walked::Failed(e) => {
-                return Walked::Failed(e);
-            }
+            Walked::Failed(e) => return Walked::Failed(e),
             Walked::Root { root, used: then } => {
                 noted[k] = root;
                 k += 1;

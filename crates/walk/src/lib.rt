@@ -284,9 +284,7 @@ fn walk_args(
         let cell = read(table, left);
         let arg = cell.a;
         match walk_argument(table, solutions, n, u, room, hole, floor, map, depth, arg) {
-            Walked::Failed(e) => {
-                return Walked::Failed(e);
-            }
+            Walked::Failed(e) => return Walked::Failed(e),
             Walked::Root { root, used: then } => {
                 noted[k] = root;
                 k += 1;
