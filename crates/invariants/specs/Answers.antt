@@ -55,7 +55,7 @@ pub record Readable (os : List ℕ) (x : Shown) : Type 0 where
   pub outputs : Outputs (records os) out
   pub words-are : out .words ≡ x .output
   pub used-is : out .used ≡ x .behind .said .used
-  pub root : ARoot out (x .behind .said .used - 1)
+  pub root : ARoot 0 out (x .behind .said .used - 1)
 
 -- show answers at most 11, and where it answers 0 the output can be read
 pub record Answers (os : List ℕ) (x : Shown) : Type 0 where
@@ -71,14 +71,14 @@ shows-same l os h some low =
     record { low = omega arith; written = λ y. absurd (omega arith) }
 
 -- where it does, showing ends
-shows-answers : (R n : ℕ) (home : ℕ → ℕ) (t : Store) (l : Behind) (os : List ℕ) (h : ℕ) → Fine R n home t → h < R → l .said .answer ≡ 0 → l .table ≡ t .words → l .solutions ≡ t .solutions
+pub shows-answers : (R n : ℕ) (home : ℕ → ℕ) (t : Store) (l : Behind) (os : List ℕ) (h : ℕ) → Fine R n home t → h < R → l .said .answer ≡ 0 → l .table ≡ t .words → l .solutions ≡ t .solutions
     → Answers os (shows l os h)
 unfolding shows
 shows-answers R n home t l os h f lt zero-said table-is solutions-are =
     go (answer (records os) (l .table) h (blank os (l .solutions))) refl
     (rw table-is (answer-writes R n (records os) home t f h (blank os (l .solutions)) lt (blank-outputs os (l .solutions)) solutions-are))
   where
-    go : (o : Out ℕ) → answer (records os) (l .table) h (blank os (l .solutions)) ≡ o → Writes (records os) (t .solutions) ARoot (blank os (l .solutions)) o → Answers os (shows l os h)
+    go : (o : Out ℕ) → answer (records os) (l .table) h (blank os (l .solutions)) ≡ o → Writes (records os) (t .solutions) (ARoot 0) (blank os (l .solutions)) o → Answers os (shows l os h)
     go (goes s r) e i =
         let z : s .used - 1 ≡ r = omega arith in
         rw (zero-said, shows, e) (record { low = omega arith; written = λ y. record { out = s; outputs = i .outputs; words-are = refl; used-is = refl; root = rw z (i .root) } })

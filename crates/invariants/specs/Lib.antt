@@ -11,6 +11,7 @@ pub mod Rise  -- the floor rises below a solved hole
 pub mod Keep  -- the walk keeps the invariant, and its fuel suffices
 pub mod Copy  -- copying and expanding keep the invariant, and their fuel suffices
 pub mod Assign  -- solving a hole keeps the invariant
+pub mod Extent  -- how many records a term takes up
 pub mod Output  -- the output of show
 pub mod Input  -- the records of a sound table keep the machine's rules
 pub mod Running  -- a state of the run
@@ -24,4 +25,5 @@ pub mod Admit  -- what an admitted input is
 pub mod Machine  -- the machine on an admitted input
 pub mod Answers  -- what solving and show answer
 pub mod Printed  -- printing follows the rules without fuel
+pub mod Length  -- how long a printed text is
 pub mod Ends  -- the machine, show and printing never run out of fuel

@@ -1,19 +1,20 @@
 -- The output of show: every record refers to lower records of the right kind, and what is appended keeps that.
-use Prim.Native.Nat.{ℕ, suc, _+_, _*_, _<_, _≤_}
-use mathlib.Core.Path.{_≡_, refl, sym, _∙_}
+use Prim.Native.Nat.{ℕ, zero, suc, _+_, _*_, _<_, _≤_}
+use mathlib.Core.Path.{_≡_, refl, sym, ap, _∙_}
 use mathlib.Core.List.{List, [], _∷_}
 use native.Mathlib.Omega.{arith}
 use native.Mathlib.Nat.{le-refl}
-use native.Mathlib.Decide.{decLt}
+use native.Mathlib.Decide.{decLt, ℕ-discrete}
 use lib.ListN.{length}
 use borrow.Author.Tests.{lt-ltb, le-ltb}
 use Rattle.rules.specs.Words.{NONE, tag, fieldA, fieldB, elements, VA, HA}
 use Rattle.rules.specs.Store.{Store, Out, goes, fails, spent, fail, _>>=_, put, push, pushVariables, pushOccurrence}
 use Rattle.laws.specs.Lists.{Cell, Listed, elements-none, elements-cell, elements-kept}
-use Rattle.invariants.specs.Floor.{Sub, Args, Ext}
-use Rattle.invariants.specs.Grow.{all-map, tag-kept, a-kept, b-kept, sub-kept}
+use Rattle.invariants.specs.Floor.{Sub, All, Args, Ext}
+use Rattle.invariants.specs.Grow.{all-map, tag-kept, a-kept, b-kept, sub-less, sub-kept}
 use Rattle.invariants.specs.Push.{put-length, put-kept, put-tag, put-a, put-b, ext-refl, ext-trans}
 use Rattle.invariants.specs.Copy.{Nobody}
+use Rattle.invariants.specs.Extent.{extent, extents, extent-lambda, extent-applied, extents-same}
 
 -- in an output no home is said
 abbrev pub plain : ℕ → ℕ
@@ -49,14 +50,16 @@ Writes O ss Q s spent = ⊥
 abbrev pub ATerm : Store → ℕ → Type 0
 ATerm s x = Sub (s .words) plain 0 (s .used) x
 
--- a term whose head is the last record
-pub record ARoot (s : Store) (x : ℕ) : Type 0 where
+-- a term whose head is the last record, and which takes up no more than the records from b on
+pub record ARoot (b : ℕ) (s : Store) (x : ℕ) : Type 0 where
   pub term : ATerm s x
   pub last : s .used ≡ suc x
+  pub takes : (f : ℕ) → b + extent f (s .words) x ≤ s .used
 
--- a list in an output
-abbrev pub AList : Store → ℕ → Type 0
-AList s x = Args (s .words) plain 0 (s .used) x
+-- a list in an output, which takes up no more than the records from b on
+pub record AList (b : ℕ) (s : Store) (l : ℕ) : Type 0 where
+  pub list : Args (s .words) plain 0 (s .used) l
+  pub takes : (f : ℕ) → b + extents (λ x. extent f (s .words) x) (elements (s .words) l) ≤ s .used
 
 pub bind-writes : {A B : Type 0} (O : ℕ) (ss : List ℕ) (P : Store → A → Type 0) (Q : Store → B → Type 0) (s : Store) (o : Out A) (k : Store × A → Out B)
     → Writes O ss P s o → ((s₁ : Store) (x : A) → Ext Nobody plain s plain s₁ → Outputs O s₁ → s₁ .solutions ≡ ss → P s₁ x → Writes O ss Q s₁ (k (s₁, x))) → Writes O ss Q s (o >>= k)
@@ -70,10 +73,15 @@ bind-writes {B = B} O ss P Q s (goes s₁ x) k w g = after (k (s₁, x)) (g s₁
 bind-writes {B = B} O ss P Q s (fails ws e f) k w g = tt
 bind-writes {B = B} O ss P Q s spent k w g = w
 
+-- a list has the elements that it had
+elements-stay : (O : ℕ) (s s₁ : Store) (r l : ℕ) → Outputs O s → Ext Nobody plain s plain s₁ → r ≤ s .used → Args (s .words) plain 0 r l → elements (s₁ .words) l ≡ elements (s .words) l
+elements-stay O s s₁ r l o e h p =
+    elements-kept (s .words) (s₁ .words) (s .used) l (e .kept) (λ c lt five. o .good c lt .cell five) (λ q. let a = p .here q .0 in (omega arith, p .here q .1))
+
 -- a list is as it was
 args-stay : (O : ℕ) (s s₁ : Store) (r v l : ℕ) → Outputs O s → Ext Nobody plain s plain s₁ → r ≤ s .used → r ≤ v → Args (s .words) plain 0 r l → Args (s₁ .words) plain 0 v l
 args-stay O s s₁ r v l o e h lv p =
-    let k = elements-kept (s .words) (s₁ .words) (s .used) l (e .kept) (λ c lt five. o .good c lt .cell five) (λ q. let a = p .here q .0 in (omega arith, p .here q .1)) in
+    let k = elements-stay O s s₁ r l o e h p in
     record {
       here = λ q. let a = p .here q .0 in (omega arith, tag-kept Nobody 0 0 plain s plain s₁ l e (omega arith) ∙ p .here q .1);
       all = rw k (all-map (Sub (s .words) plain 0 r) (Sub (s₁ .words) plain 0 v) (λ x t. sub-kept Nobody 0 0 plain s plain s₁ 0 r v x e h lv t) (elements (s .words) l) (p .all));
@@ -93,6 +101,40 @@ line-stays O s s₁ r o e h =
           record { elem = rw a (c .elem); rest = rw b (λ q. let x = c .rest q in let x₀ = x .0 in (x₀, tag-kept Nobody 0 0 plain s plain s₁ _ e (omega arith) ∙ x .1)) };
       item = λ i. rw a (sub-kept Nobody 0 0 plain s plain s₁ 0 r r _ e (omega arith) (le-refl _) (g .item (sym t ∙ i)));
     }
+
+-- a term takes up what it took up, and so does a list
+extent-stays : (O : ℕ) (s s₁ : Store) → Outputs O s → Ext Nobody plain s plain s₁ → (f x : ℕ) → ATerm s x → extent f (s₁ .words) x ≡ extent f (s .words) x
+unfolding extent
+extent-stays O s s₁ o e zero x p = refl
+extent-stays O s s₁ o e (suc f) x p = go (λ y q. extent-stays O s s₁ o e f y q) (ℕ-discrete (tag (s .words) x) 6)
+  where
+    low : x < s .used
+    low = p .below
+
+    same : tag (s₁ .words) x ≡ tag (s .words) x
+    same = tag-kept Nobody 0 0 plain s plain s₁ x e low
+
+    lower : (y : ℕ) → Sub (s .words) plain 0 x y → ATerm s y
+    lower y q = sub-less (s .words) plain 0 0 x (s .used) y q (le-refl _) (omega arith)
+
+    go : ((y : ℕ) → ATerm s y → extent f (s₁ .words) y ≡ extent f (s .words) y) → Dec (tag (s .words) x ≡ 6) → extent (suc f) (s₁ .words) x ≡ extent (suc f) (s .words) x
+    go part (yes t) =
+        rw (extent-lambda f (s₁ .words) x (same ∙ t), extent-lambda f (s .words) x t, a-kept Nobody 0 0 plain s plain s₁ x e low)
+        (ap suc (part (fieldA (s .words) x) (lower _ (o .good x low .lam t))))
+    go part (no t) =
+        let lo = p .term .low in
+        let hi = p .term .high in
+        let same₁ = same in
+        let args = o .good x low .app (omega arith) hi in
+        rw (extent-applied f (s₁ .words) x (omega arith) (omega arith), extent-applied f (s .words) x (omega arith) hi, b-kept Nobody 0 0 plain s plain s₁ x e low, elements-stay O s s₁ x (fieldB (s .words) x) o e (omega arith) args)
+        (ap suc (extents-same (λ y. extent f (s₁ .words) y) (λ y. extent f (s .words) y) (Sub (s .words) plain 0 x) (λ y q. part y (lower y q)) (elements (s .words) (fieldB (s .words) x)) (args .all)))
+
+extents-stay : (O : ℕ) (s s₁ : Store) (f r l : ℕ) → Outputs O s → Ext Nobody plain s plain s₁ → r ≤ s .used → Args (s .words) plain 0 r l
+    → extents (λ x. extent f (s₁ .words) x) (elements (s₁ .words) l) ≡ extents (λ x. extent f (s .words) x) (elements (s .words) l)
+extents-stay O s s₁ f r l o e h p =
+    rw (elements-stay O s s₁ r l o e h p)
+    (extents-same (λ y. extent f (s₁ .words) y) (λ y. extent f (s .words) y) (Sub (s .words) plain 0 r)
+    (λ y q. extent-stays O s s₁ o e f y (sub-less (s .words) plain 0 0 r (s .used) y q (le-refl _) h)) (elements (s .words) l) (p .all))
 
 -- one record more
 module _ (O : ℕ) (ss : List ℕ) (s : Store) (o : Outputs O s) (sols : s .solutions ≡ ss) where
@@ -124,32 +166,51 @@ module _ (O : ℕ) (ss : List ℕ) (s : Store) (o : Outputs O s) (sols : s .solu
       go (no h) = let k : O ≤ s .used = omega arith in rw (le-ltb _ _ k, push) tt
 
   -- a term whose head is the record appended
-  rooted : (t a c : ℕ) → 6 ≤ t → t ≤ 9 → 4 * s .used + 3 < length (s .words) → ARoot (more t a c) (s .used)
-  rooted t a c lo hi l =
+  rooted : (b t a c : ℕ) → 6 ≤ t → t ≤ 9 → 4 * s .used + 3 < length (s .words) → b ≤ s .used → ((f : ℕ) → b + extent (suc f) (more t a c .words) (s .used) ≤ s .used + 1)
+      → ARoot b (more t a c) (s .used)
+  unfolding extent
+  rooted b t a c lo hi l start size =
       let e = put-tag (s .words) (s .used) t a c l in
-      record { term = record { below = omega arith; term = record { low = omega arith; high = omega arith }; up = le-refl _ }; last = omega arith }
+      record { term = record { below = omega arith; term = record { low = omega arith; high = omega arith }; up = le-refl _ }; last = omega arith; takes = takes }
+    where
+      takes : (f : ℕ) → b + extent f (more t a c .words) (s .used) ≤ s .used + 1
+      takes zero = omega arith
+      takes (suc f) = size f
 
-  pub push-lambda : (a : ℕ) → ATerm s a → Writes O ss ARoot s (push O 6 a 0 s)
-  push-lambda a p =
-      push-writes ARoot 6 a 0
+  pub push-lambda : (b a : ℕ) → ARoot b s a → Writes O ss (ARoot b) s (push O 6 a 0 s)
+  push-lambda b a p =
+      push-writes (ARoot b) 6 a 0
       (λ l.
       let t = put-tag (s .words) (s .used) 6 a 0 l in
       let i = put-a (s .words) (s .used) 6 a 0 l in
-      record { lam = λ z. rw i (sub-kept Nobody 0 0 plain s plain (more 6 a 0) 0 (s .used) (s .used) a (more-ext 6 a 0) (le-refl _) (le-refl _) p); app = λ i j. absurd (omega arith); cell = λ i. absurd (omega arith); item = λ i. absurd (omega arith) })
-      (λ l all. rooted 6 a 0 (omega arith) (omega arith) l)
+      record { lam = λ z. rw i (sub-kept Nobody 0 0 plain s plain (more 6 a 0) 0 (s .used) (s .used) a (more-ext 6 a 0) (le-refl _) (le-refl _) (p .term)); app = λ i j. absurd (omega arith); cell = λ i. absurd (omega arith); item = λ i. absurd (omega arith) })
+      λ l all.
+      let z = p .takes 0 in
+      rooted b 6 a 0 (omega arith) (omega arith) l (omega arith) λ f.
+      let k = p .takes f in
+      rw (extent-lambda f (more 6 a 0 .words) (s .used) (put-tag (s .words) (s .used) 6 a 0 l), put-a (s .words) (s .used) 6 a 0 l, extent-stays O s (more 6 a 0) o (more-ext 6 a 0) f a (p .term))
+      (omega arith)
 
-  pub push-applied : (t a c : ℕ) → 7 ≤ t → t ≤ 9 → AList s c → Writes O ss ARoot s (push O t a c s)
-  push-applied t a c lo hi p =
-      push-writes ARoot t a c
+  pub push-applied : (b t a c : ℕ) → 7 ≤ t → t ≤ 9 → AList b s c → Writes O ss (ARoot b) s (push O t a c s)
+  push-applied b t a c lo hi p =
+      push-writes (ARoot b) t a c
       (λ l.
       let e = put-tag (s .words) (s .used) t a c l in
       let i = put-b (s .words) (s .used) t a c l in
-      record { lam = λ z. absurd (omega arith); app = λ j k. rw i (args-stay O s (more t a c) (s .used) (s .used) c o (more-ext t a c) (le-refl _) (le-refl _) p); cell = λ z. absurd (omega arith); item = λ z. absurd (omega arith) })
-      (λ l all. rooted t a c (omega arith) hi l)
+      record { lam = λ z. absurd (omega arith); app = λ j k. rw i (args-stay O s (more t a c) (s .used) (s .used) c o (more-ext t a c) (le-refl _) (le-refl _) (p .list)); cell = λ z. absurd (omega arith); item = λ z. absurd (omega arith) })
+      λ l all.
+      let z = p .takes 0 in
+      rooted b t a c (omega arith) hi l (omega arith) λ f.
+      let e = put-tag (s .words) (s .used) t a c l in
+      let k = p .takes f in
+      rw (extent-applied f (more t a c .words) (s .used) (omega arith) (omega arith), put-b (s .words) (s .used) t a c l, extents-stay O s (more t a c) f (s .used) c o (more-ext t a c) (le-refl _) (p .list))
+      (omega arith)
 
-  pub push-element : (a c : ℕ) → ATerm s a → AList s c → Writes O ss AList s (push O 5 a c s)
-  push-element a c p q =
-      push-writes AList 5 a c
+  pub push-element : (b a c : ℕ) → ATerm s a → Args (s .words) plain 0 (s .used) c → ((f : ℕ) → b + (extent f (s .words) a + extents (λ x. extent f (s .words) x) (elements (s .words) c)) ≤ s .used)
+      → Writes O ss (AList b) s (push O 5 a c s)
+  unfolding extents
+  push-element b a c p q size =
+      push-writes (AList b) 5 a c
       (λ l.
       let e = put-tag (s .words) (s .used) 5 a c l in
       let i = put-a (s .words) (s .used) 5 a c l in
@@ -168,24 +229,37 @@ module _ (O : ℕ) (ss : List ℕ) (s : Store) (o : Outputs O s) (sols : s .solu
       let li : Listed (more 5 a c .words) (s .used) = record { top = s .used + 1; inside = omega arith; few = omega arith; good = λ x lt five. all .good x lt .cell five; here = here } in
       let el : elements (more 5 a c .words) (s .used) ≡ a ∷ elements (more 5 a c .words) c = elements-cell (more 5 a c .words) (s .used) real li ∙ rw (put-a (s .words) (s .used) 5 a c l, put-b (s .words) (s .used) 5 a c l) in
       let tail = args-stay O s (more 5 a c) (s .used) (s .used + 1) c o (more-ext 5 a c) (le-refl _) (omega arith) q in
-      record { here = here; all = rw el (sub-kept Nobody 0 0 plain s plain (more 5 a c) 0 (s .used) (s .used + 1) a (more-ext 5 a c) (le-refl _) (omega arith) p, tail .all) }
+      record {
+        list = record { here = here; all = rw el (sub-kept Nobody 0 0 plain s plain (more 5 a c) 0 (s .used) (s .used + 1) a (more-ext 5 a c) (le-refl _) (omega arith) p, tail .all) };
+        takes = λ f.
+            let k = size f in
+            rw (el, extents, extent-stays O s (more 5 a c) o (more-ext 5 a c) f a p, extents-stay O s (more 5 a c) f (s .used) c o (more-ext 5 a c) (le-refl _) q) (omega arith);
+      }
 
 -- no list
-pub none-list : (s : Store) → AList s NONE
-none-list s = let e : elements (s .words) NONE ≡ [] = elements-none (s .words) NONE refl in record { here = λ ne. absurd (ne refl); all = rw e tt }
+pub none-list : (s : Store) → AList (s .used) s NONE
+unfolding extents
+none-list s =
+    let e : elements (s .words) NONE ≡ [] = elements-none (s .words) NONE refl in
+    record { list = record { here = λ ne. absurd (ne refl); all = rw e tt }; takes = λ f. rw e (omega arith) }
 
--- a term or a list stays one
-pub term-stays : (s s₁ : Store) (x : ℕ) → Ext Nobody plain s plain s₁ → ATerm s x → ATerm s₁ x
-term-stays s s₁ x e p = sub-kept Nobody 0 0 plain s plain s₁ 0 (s .used) (s₁ .used) x e (le-refl _) (e .grown) p
+-- a term, and then the list of what follows it
+pub then-element : (O : ℕ) (ss : List ℕ) (b : ℕ) (s₁ : Store) (x : ℕ) (s₂ : Store) (y : ℕ) → Outputs O s₁ → Outputs O s₂ → s₂ .solutions ≡ ss → Ext Nobody plain s₁ plain s₂ → ARoot b s₁ x → AList (s₁ .used) s₂ y
+    → Writes O ss (AList b) s₂ (push O 5 x y s₂)
+then-element O ss b s₁ x s₂ y o₁ o₂ h e p q =
+    push-element O ss s₂ o₂ h b x y (sub-kept Nobody 0 0 plain s₁ plain s₂ 0 (s₁ .used) (s₂ .used) x e (le-refl _) (e .grown) (p .term)) (q .list) λ f.
+    let i = p .takes f in
+    let j = q .takes f in
+    rw (extent-stays O s₁ s₂ o₁ e f x (p .term)) (omega arith)
 
-variables-write : (O : ℕ) (ss vs : List ℕ) (s : Store) → Outputs O s → s .solutions ≡ ss → Writes O ss AList s (pushVariables O vs s)
+variables-write : (O : ℕ) (ss vs : List ℕ) (s : Store) → Outputs O s → s .solutions ≡ ss → Writes O ss (AList (s .used)) s (pushVariables O vs s)
 unfolding pushVariables
 variables-write O ss [] s o h = record { ext = ext-refl Nobody plain s; outputs = o; sols = h; root = none-list s }
 variables-write O ss (v ∷ vs) s o h =
-    bind-writes O ss ARoot AList s (push O VA v NONE s) _ (push-applied O ss s o h 8 v NONE (omega arith) (omega arith) (none-list s)) λ s₁ x e₁ o₁ h₁ p₁.
-    bind-writes O ss AList AList s₁ (pushVariables O vs s₁) _ (variables-write O ss vs s₁ o₁ h₁) λ s₂ y e₂ o₂ h₂ p₂. push-element O ss s₂ o₂ h₂ x y (term-stays s₁ s₂ x e₂ (p₁ .term)) p₂
+    bind-writes O ss (ARoot (s .used)) (AList (s .used)) s (push O VA v NONE s) _ (push-applied O ss s o h (s .used) 8 v NONE (omega arith) (omega arith) (none-list s)) λ s₁ x e₁ o₁ h₁ p₁.
+    bind-writes O ss (AList (s₁ .used)) (AList (s .used)) s₁ (pushVariables O vs s₁) _ (variables-write O ss vs s₁ o₁ h₁) λ s₂ y e₂ o₂ h₂ p₂. then-element O ss (s .used) s₁ x s₂ y o₁ o₂ h₂ e₂ p₁ p₂
 
-pub occurrence-writes : (O : ℕ) (ss : List ℕ) (g : ℕ) (vs : List ℕ) (s : Store) → Outputs O s → s .solutions ≡ ss → Writes O ss ARoot s (pushOccurrence O g vs s)
+pub occurrence-writes : (O : ℕ) (ss : List ℕ) (g : ℕ) (vs : List ℕ) (s : Store) → Outputs O s → s .solutions ≡ ss → Writes O ss (ARoot (s .used)) s (pushOccurrence O g vs s)
 unfolding pushOccurrence
 occurrence-writes O ss g vs s o h =
-    bind-writes O ss AList ARoot s (pushVariables O vs s) _ (variables-write O ss vs s o h) λ s₁ x e₁ o₁ h₁ p₁. push-applied O ss s₁ o₁ h₁ HA g x (omega arith) (omega arith) p₁
+    bind-writes O ss (AList (s .used)) (ARoot (s .used)) s (pushVariables O vs s) _ (variables-write O ss vs s o h) λ s₁ x e₁ o₁ h₁ p₁. push-applied O ss s₁ o₁ h₁ (s .used) HA g x (omega arith) (omega arith) p₁

@@ -6,3 +6,4 @@ pub mod Forms  -- the rules of typing and of patterns, form by form
 pub mod Unrolled  -- the same rules without fuel: it never runs out
 pub mod Search  -- a search record by record
 pub mod Places  -- a type, a term, a list of a legal table
+pub mod Noted  -- numbers that pass a test, noted in order

@@ -1,11 +1,9 @@
 -- Where the run and the machine start.
-use Prim.Native.Nat.{ℕ, zero, suc, _+_, _*_, _<_, _≤_}
+use Prim.Native.Nat.{ℕ, _+_, _*_, _<_, _≤_}
 use mathlib.Core.Path.{_≡_, refl, sym, subst}
 use mathlib.Core.List.{List, _∷_}
-use mathlib.Core.Bool.{Bool, true, false}
 use native.Mathlib.Omega.{arith}
 use lib.ListN.{length, getD, take}
-use lib.Seq.{length-take-le, getD-take}
 use borrow.Author.Tests.{le-leb, lt-leb}
 use Rattle.rules.specs.declared.Failure.the-variants.{QueueFull}
 use Rattle.queue.specs.declared.Ring.{Ring}
@@ -14,10 +12,11 @@ use Rattle.queue.specs.declared.Joined.{Joined}
 use Rattle.queue.specs.declared.Joined.the-variants.{Full, To}
 use Rattle.machine.specs.declared.Ran.{Ran}
 use Rattle.machine.specs.declared.Ran.the-variants.{Solved, Failed}
-use Rattle.rules.specs.Lists.{those, from, below}
+use Rattle.rules.specs.Lists.{those, below}
 use Rattle.rules.specs.Words.{EQ, has}
 use Rattle.rules.specs.Store.{fail, _>>=_}
 use Rattle.rules.specs.Machine.{join, run, steps, equations, machine}
+use Rattle.laws.specs.Noted.{noted-member}
 use Rattle.invariants.specs.Running.{Running}
 use Rattle.invariants.specs.Falls.{steps-more}
 use Rattle.invariants.specs.Turn.{lefts-low}
@@ -62,18 +61,6 @@ pub record Noted (ws : List ℕ) (n : ℕ) (es : List ℕ) (k : ℕ) : Type 0 wh
   pub long : k ≤ length es
   pub same : take k es ≡ those (λ e. has ws e EQ) (below n)
 
--- what passes is one of the numbers
-those-low : (ok : ℕ → Bool) (i k j : ℕ) → j < length (those ok (from i k)) → getD (those ok (from i k)) j 0 < i + k
-unfolding those from
-those-low ok i zero j h = absurd (omega arith)
-those-low ok i (suc k) j h = go (ok i) refl (λ j l. those-low ok (i + 1) k j l) j h
-  where
-    go : (b : Bool) → ok i ≡ b → ((j : ℕ) → j < length (those ok (from (i + 1) k)) → getD (those ok (from (i + 1) k)) j 0 < i + 1 + k)
-        → (j : ℕ) → j < length (those ok (i ∷ from (i + 1) k)) → getD (those ok (i ∷ from (i + 1) k)) j 0 < i + suc k
-    go true e ih zero l = rw (e, those) (omega arith)
-    go true e ih (suc j) l = let l₁ : suc j < suc (length (those ok (from (i + 1) k))) = rw (e, those) at l in let z = ih j (omega arith) in rw (e, those) (omega arith)
-    go false e ih j l = let z = ih j (rw (e, those) at l) in rw (e, those) (omega arith)
-
 -- a table and solutions as they stand where the machine starts, with the equations noted
 pub record Started (R n : ℕ) (ws ss q : List ℕ) (cap : ℕ) (es : List ℕ) (k : ℕ) : Type 0 where
   pub inside : 4 * n ≤ length ws
@@ -86,11 +73,8 @@ pub record Started (R n : ℕ) (ws ss q : List ℕ) (cap : ℕ) (es : List ℕ) 
 
 module _ (R n : ℕ) (ws ss q : List ℕ) (cap : ℕ) (es : List ℕ) (k : ℕ) (h : Started R n ws ss q cap es k) where
   noted-inside : (i : ℕ) → i < k → 4 * getD es i 0 + 3 < length ws
-  unfolding below
   noted-inside i lt =
-      let s = h .noted .same in
-      let l : i < length (those (λ e. has ws e EQ) (below n)) = rw (← s, length-take-le k es (h .noted .long)) lt in
-      let z : getD es i 0 < 0 + n = rw (← getD-take k es i 0 lt, s) (those-low (λ e. has ws e EQ) 0 n i l) in
+      let z = noted-member (λ e. has ws e EQ) es k n i (h .noted .same) (h .noted .long) lt .0 in
       let a = h .inside in
       omega arith
 

@@ -17,7 +17,8 @@ use Rattle.records.specs.declared.Field.{Field}
 use Rattle.records.specs.Kinds.{field}
 use Rattle.records.specs.Marks.{counts, Marked, used, fresh, one, reference-of, FieldSays}
 use Rattle.records.specs.Rows.{RowAsks, RowSays}
-use Rattle.records.proofs.Joined.{among-append, those-append, both-swap}
+use Rattle.records.proofs.Joined.{among-append, both-swap}
+use Rattle.laws.specs.Noted.{those-append}
 use Rattle.records.proofs.Fresh.{first-use-is}
 use Rattle.records.proofs.Uses.{one-is, marked-same, marked-own}
 use Rattle.records.proofs.Holding.{field-answer, field-next}

@@ -5,16 +5,8 @@ use mathlib.Core.Bool.{Bool, true, false}
 use mathlib.Core.List.{List, [], _∷_, _++_}
 use native.Mathlib.Omega.{arith}
 use lib.Dec.{eqb}
-use Rattle.rules.specs.Lists.{both, either, all, any, among, those, from, below}
-
-from-more : (k i : ℕ) → from i (suc k) ≡ from i k ++ ((i + k) ∷ [])
-unfolding from
-from-more zero i = let e : i + 0 ≡ i = omega arith in rw e
-from-more (suc k) i = let e : i + suc k ≡ i + 1 + k = omega arith in rw (e, from-more k (i + 1))
-
-below-more : (r : ℕ) → below (suc r) ≡ below r ++ (r ∷ [])
-unfolding below
-below-more r = let z : 0 + r ≡ r = omega arith in rw z at (from-more r 0)
+use Rattle.rules.specs.Lists.{both, either, all, any, among, below}
+use Rattle.laws.specs.Noted.{below-more}
 
 both-last : (a b c : Bool) → both (both a b) c ≡ both a (both b c)
 unfolding both
@@ -44,18 +36,6 @@ among-append (x ∷ xs) ys v = rw (among-append xs ys v) (sym (last (eqb x v) (a
     last : (a b c : Bool) → either (either a b) c ≡ either a (either b c)
     last true b c = unfold either in refl
     last false b c = unfold either in refl
-
-pub those-append : (ok : ℕ → Bool) (xs ys : List ℕ) → those ok (xs ++ ys) ≡ those ok xs ++ those ok ys
-unfolding those
-those-append ok [] ys = refl
-those-append ok (x ∷ xs) ys = go (ok x) refl (those-append ok xs ys)
-  where
-    go : (b : Bool) → ok x ≡ b → those ok (xs ++ ys) ≡ those ok xs ++ those ok ys → those ok ((x ∷ xs) ++ ys) ≡ those ok (x ∷ xs) ++ those ok ys
-    go true q ih = rw (q, those, ih)
-    go false q ih = rw (q, those, ih)
-
-pub those-below : (ok : ℕ → Bool) (r : ℕ) → those ok (below (suc r)) ≡ those ok (below r) ++ those ok (r ∷ [])
-those-below ok r = rw (below-more r) (those-append ok (below r) (r ∷ []))
 
 pub both-yes : (b : Bool) → both b true ≡ b
 unfolding both

@@ -13,7 +13,8 @@ use Rattle.records.specs.Chains.{latest}
 use Rattle.records.specs.Rows.{Passed, Blank, RecordAsks, RecordSays, BrokenAsks}
 use Rattle.records.specs.declared.Pass.the-variants.{Broken, Sound}
 use Rattle.records.specs.Noting.{Noted, NoteAsks, BrokenSays}
-use Rattle.records.proofs.Noting.{noted-start}
+use Rattle.rules.specs.Words.{EQ, has}
+use Rattle.laws.specs.Noted.{noted-start}
 use Rattle.records.proofs.Uses.{marked-start}
 
 -- The start
@@ -44,7 +45,7 @@ going-start ws ms la be es n p = record {
   asks = p;
   passed = passed-start ws ms la be n (p .blank);
   left = unfold broken in ahead-start n (λ r. not (keeps ws r));
-  noted = noted-start ws es;
+  noted = noted-start (λ e. has ws e EQ) es;
   within = omega arith;
   marks = refl;
   last = refl;

@@ -18,7 +18,8 @@ use Rattle.records.specs.declared.Field.{Field}
 use Rattle.records.specs.declared.Field.the-variants.{Nil, Any, Small, OfType, OfBase, OfConstant, OfHole, OfTerm, Types, Terms, Element, Rest}
 use Rattle.records.specs.Kinds.{field, refersTo}
 use Rattle.records.specs.Marks.{counts, kind, mark, Marked, used, fresh, one, reference-of, referred}
-use Rattle.records.proofs.Joined.{among-append, those-append}
+use Rattle.records.proofs.Joined.{among-append}
+use Rattle.laws.specs.Noted.{those-append}
 
 -- Records of tag 5 to 9
 

@@ -1,20 +1,19 @@
 -- The equations are noted in record order.
-use Prim.Native.Nat.{ℕ, _+_, _*_, _<_, _≤_}
+use Prim.Native.Nat.{ℕ, _+_, _*_, _<_}
 use mathlib.Core.Path.{_≡_}
 use mathlib.Core.List.{List}
-use lib.ListN.{length, take}
+use lib.ListN.{length}
 use Rattle.rules.specs.declared.Found.{Found}
 use Rattle.rules.specs.declared.Found.the-variants.{At, Nowhere}
-use Rattle.rules.specs.Lists.{those, below}
 use Rattle.rules.specs.Words.{EQ, has}
 use Rattle.rules.specs.Records.{broken}
+use Rattle.laws.specs.Noted.{Noted as Noted-of}
 use Rattle.records.specs.declared.Pass.{Pass}
 use Rattle.records.specs.declared.Pass.the-variants.{Broken, Sound}
 
 -- the first k of the notes are the equations among the first r records
-pub record Noted (ws es : List ℕ) (k r : ℕ) : Type 0 where
-  pub noted : take k es ≡ those (λ e. has ws e EQ) (below r)
-  pub few : k ≤ r
+abbrev pub Noted : List ℕ → List ℕ → ℕ → ℕ → Type 0
+Noted ws es k r = Noted-of (λ e. has ws e EQ) es k r
 
 -- record r lies in the table, can be noted, and the lower equations are
 pub record NoteAsks (ws es : List ℕ) (k r : ℕ) : Type 0 where

@@ -1,1 +1,2 @@
-pub mod Line  -- the line of a hole: what show wrote can be printed
+pub mod Moving  -- how many bytes were moved
+pub mod Gathering  -- the lines that are gathered in a buffer

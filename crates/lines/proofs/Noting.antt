@@ -1,0 +1,54 @@
+-- One more record is noted if it is a hole.
+use Prim.Native.Nat.{ℕ, _+_, _*_, _<_, _≤_}
+use mathlib.Core.Path.{_≡_, sym, _∙_}
+use mathlib.Core.List.{List}
+use native.Mathlib.Omega.{arith}
+use borrow.Author.Tests.{ne-eqb}
+use lib.ListN.{length, set}
+use Rattle.rules.specs.Words.{HO, has}
+use Rattle.laws.specs.Noted.{noted-start, noted-other, noted-one}
+use Rattle.table.specs.declared.Record.{Record}
+use Rattle.table.specs.Reading.{IsRecord}
+use Rattle.lines.specs.Holes.{Holes, Noting, Notable}
+
+module _ (ws hs : List ℕ) (k r : ℕ) (p : Noting ws hs k r) where
+  pub note-fits : k < length hs
+  note-fits = let f = p .lower .few in let h = p .room in omega arith
+
+  module _ (x : Record) (i : IsRecord ws r x) where
+    pub note-other : (x .tag ≡ HO → ⊥) → Holes ws hs k (r + 1)
+    unfolding has
+    note-other z = noted-other (λ h. has ws h HO) hs k r (p .lower) (rw (← i .tag-is, ne-eqb _ _ z))
+
+    pub note-hole : x .tag ≡ HO → Holes ws (set hs k r) (k + 1) (r + 1)
+    unfolding has
+    note-hole z = noted-one (λ h. has ws h HO) hs k r (p .lower) (rw (← i .tag-is, z)) note-fits
+
+-- the loop: r records are passed
+pub record Passed (ws hs₀ hs : List ℕ) (n k r : ℕ) : Type 0 where
+  pub all : Notable ws hs₀ n
+  pub same : length hs ≡ length hs₀
+  pub low : r ≤ n
+  pub holes : Holes ws hs k r
+
+module _ (ws hs₀ : List ℕ) (n : ℕ) where
+  pub passed-none : Notable ws hs₀ n → Passed ws hs₀ hs₀ n 0 0
+  passed-none a = record { all = a; same = refl-length; low = omega arith; holes = noted-start (λ h. has ws h HO) hs₀ }
+    where
+      refl-length : length hs₀ ≡ length hs₀
+      refl-length = omega arith
+
+  module _ (hs : List ℕ) (k r : ℕ) (p : Passed ws hs₀ hs n k r) where
+    pub passed-asks : r < n → Noting ws hs k r
+    passed-asks lt =
+        let i = p .all .inside in
+        let f = p .all .few in
+        let m = p .all .room in
+        let s = p .same in
+        record { inside = omega arith; low = omega arith; room = omega arith; lower = p .holes }
+
+    pub passed-more : (hs₁ : List ℕ) (j : ℕ) → r < n → length hs₁ ≡ length hs → Holes ws hs₁ j (r + 1) → Passed ws hs₀ hs₁ n j (r + 1)
+    passed-more hs₁ j lt l h = record { all = p .all; same = l ∙ p .same; low = omega arith; holes = h }
+
+    pub passed-all : n ≤ r → Holes ws hs k n
+    passed-all le = let l = p .low in let e : r ≡ n = omega arith in rw e at (p .holes)
