@@ -1,6 +1,6 @@
 -- The first record that was not written; to clear what was written is to clear all.
 use Prim.Native.Nat.{ℕ, zero, suc, _+_, _-_, _*_, _<_, _≤_}
-use mathlib.Core.Path.{_≡_, refl, sym, ap, _∙_}
+use mathlib.Core.Path.{_≡_, sym, ap, _∙_}
 use mathlib.Core.List.{List, _++_, append-assoc}
 use native.Mathlib.Omega.{arith}
 use native.Mathlib.Nat.{le-refl}
@@ -45,10 +45,10 @@ module _ (n R : ℕ) (ws : List ℕ) where
     pub unused-none : R ≤ u → Unused n R ws R
     unused-none h = let w = p .within in let z : u ≡ R = omega arith in rw z at (unused-end h)
 
--- words that are x already
-filled-more : (i k x d : ℕ) (ws : List ℕ) → i + k < length ws → getD ws (i + k) d ≡ x → filled i k x ws ≡ filled i (k + 1) x ws
+-- words that are x already may be filled too
+filled-one : (i k x d : ℕ) (ws : List ℕ) → i + k < length ws → getD ws (i + k) d ≡ x → filled i k x ws ≡ filled i (k + 1) x ws
 unfolding filled
-filled-more i k x d ws h e =
+filled-one i k x d ws h e =
     let z : suc (i + k) ≡ i + (k + 1) = omega arith in
     let a : drop (i + k) ws ≡ replicate 1 x ++ drop (i + (k + 1)) ws = rw (e, z) at (drop-cons ws (i + k) d h) in
     rw a (ap (λ (r : List ℕ). take i ws ++ r) (sym (append-assoc (replicate k x) (replicate 1 x) _) ∙ ap (λ (r : List ℕ). r ++ drop (i + (k + 1)) ws) (replicate-append-replicate k 1 x)))
@@ -57,7 +57,7 @@ filled-wider : (m i k x d : ℕ) (ws : List ℕ) → i + k + m ≤ length ws →
 filled-wider zero i k x d ws h e = let z : k + zero ≡ k = omega arith in rw z
 filled-wider (suc m) i k x d ws h e =
     let z : k + 1 + m ≡ k + suc m = omega arith in
-    filled-more i k x d ws (omega arith) (e (i + k) (le-refl _) (omega arith)) ∙ (rw z at (filled-wider m i (k + 1) x d ws (omega arith) (λ j lo hi. e j (omega arith) (omega arith))))
+    filled-one i k x d ws (omega arith) (e (i + k) (le-refl _) (omega arith)) ∙ (rw z at (filled-wider m i (k + 1) x d ws (omega arith) (λ j lo hi. e j (omega arith) (omega arith))))
 
 -- past what was written there is nothing to clear
 module _ (n R u : ℕ) (ws ss : List ℕ) (h : Clearing n R ws ss) (f : Unused n R ws u) where
