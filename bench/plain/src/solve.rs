@@ -75,9 +75,10 @@ pub fn run(
     solutions.fill(NONE);
     let mut machine = Machine::new(table, n, solutions, queue);
     let outcome = machine.run(equations);
-    let used = if outcome.is_ok() { machine.next } else { n };
+    let next = machine.next;
+    let used = if outcome.is_ok() { next } else { n };
     if outcome.is_err() {
-        solutions.fill(NONE);
+        solutions[..next].fill(NONE);
     }
     table[used..].fill([0; 4]);
     queue.fill([0; 2]);

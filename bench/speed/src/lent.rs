@@ -1,6 +1,10 @@
-//! The words that are lent for one problem, with room enough and little more.
+//! The words that are lent for one problem.
 
 use families::build::Record;
+
+/// R and C are never higher.
+pub const MOST_RECORDS: usize = 4096;
+pub const MOST_PAIRS: usize = 1024;
 
 /// Table, solutions and queue.
 #[derive(Clone, PartialEq, Eq)]
@@ -20,14 +24,14 @@ impl Lent {
 
     /// The least room, and the least power of two of pairs, with which a problem has the answer it has with the most.
     pub fn fitting(records: &[Record]) -> Lent {
-        let (n, most) = (records.len(), 4096);
-        let reply = Lent::new(records, most, 1024).plain();
+        let (n, most) = (records.len(), MOST_RECORDS);
+        let reply = Lent::new(records, most, MOST_PAIRS).plain();
         let fits = |room: usize, pairs: usize| Lent::new(records, room, pairs).plain() == reply;
-        let pairs = (0..10).map(|power| 1 << power).find(|&pairs| fits(most, pairs)).unwrap_or(1024);
+        let pairs = (0..10).map(|power| 1 << power).find(|&pairs| fits(most, pairs)).unwrap_or(MOST_PAIRS);
         let (mut short, mut enough) = (n.saturating_sub(1), most);
         while enough - short > 1 {
             let middle = (short + enough) / 2;
-            if fits(middle, 1024) {
+            if fits(middle, MOST_PAIRS) {
                 enough = middle;
             } else {
                 short = middle;

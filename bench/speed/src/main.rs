@@ -58,15 +58,14 @@ fn table(part: &str) -> Result<(), String> {
 
 fn one_family(number: usize, summary: &mut Summary) -> Result<(), String> {
     let family = &families::ALL[number];
-    let problems = processes::problems(family);
-    let nodes = problems.each_ref().map(|records| families::nodes(records) as f64);
-    let found = processes::in_several(number)?;
-    for (which, size) in ["small", "middle", "large"].iter().enumerate() {
-        let row = found[which];
+    let rows = processes::rows(family);
+    let nodes: Vec<f64> = rows.iter().map(|row| families::nodes(&row.records) as f64).collect();
+    let found = processes::in_several(number, rows.len())?;
+    for (which, row) in found.into_iter().enumerate() {
         let growth = [LIBRARY_GROWTH, PLAIN_GROWTH].map(|column| row[column] * nodes[1] / nodes[which]);
         let slow = row[RATIO] > MOST_RATIO;
         let growing = which == 2 && growth[0] > MOST_GROWTH;
-        print!("| {} | {size} | {} | {} ", family.name, problems[which].len(), nodes[which]);
+        print!("| {} | {} | {} | {} ", family.name, rows[which].size, rows[which].records.len(), nodes[which]);
         print!("| {:.0} | {:.0} | {:.2} ", row[LIBRARY], row[PLAIN], row[RATIO]);
         print!("| {:.0} | {:.1} ", row[MACHINE_ALONE], row[LIBRARY] / nodes[which]);
         print!("| {:.1} | ", row[PLAIN] / nodes[which]);

@@ -22,26 +22,27 @@ pub const RATIO: usize = 3;
 pub const LIBRARY_GROWTH: usize = 4;
 pub const PLAIN_GROWTH: usize = 5;
 
-/// Three problems, small, middle and large: samples of each problem and solver in turn, so that what else the machine does
-/// meets all alike; medians, for ratios of the ratios of neighbours.
-pub fn measure(problems: &mut [Lent; 3]) -> [[f64; COLUMNS]; 3] {
-    let runs = problems.each_mut().map(runs_in_a_sample);
-    let mut samples = [const { [const { Vec::new() }; 3] }; 3];
+/// Problems, of which the second is the middle one: samples of each problem and solver in turn, so that what else the machine
+/// does meets all alike; medians, for ratios of the ratios of neighbours.
+pub fn measure(problems: &mut [Lent]) -> Vec<[f64; COLUMNS]> {
+    let runs: Vec<u32> = problems.iter_mut().map(runs_in_a_sample).collect();
+    let mut samples = vec![[const { Vec::new() }; 3]; problems.len()];
     for round in 0..ROUNDS {
-        for which in 0..3 {
+        for (which, problem) in problems.iter_mut().enumerate() {
             for turn in 0..3 {
                 let solver = (round + turn) % 3;
-                let time = sample(SOLVERS[solver], &mut problems[which], runs[which]);
+                let time = sample(SOLVERS[solver], problem, runs[which]);
                 samples[which][solver].push(time);
             }
         }
     }
-    samples.each_ref().map(|times| {
+    let columns = |times: &[Vec<f64>; 3]| {
         let [library, plain, alone] = times.each_ref().map(|times| median(times.clone()));
         let ratio = over(&times[LIBRARY], &times[PLAIN]);
         let growth = [LIBRARY, PLAIN].map(|solver| over(&times[solver], &samples[1][solver]));
         [library, plain, alone, ratio, growth[0], growth[1]]
-    })
+    };
+    samples.iter().map(columns).collect()
 }
 
 /// How many solves take about as long as a sample should.

@@ -59,7 +59,7 @@ pub record Solved (n : ℕ) (home : ℕ → ℕ) (s : Store) (h : ℕ) : Type 0 
   pub since : n ≤ home (getD (s .solutions) h NONE)
 
 -- the invariant: R records of room, of which n are given; every record in use keeps the rules, every solution is in use, and an occurrence q in a
--- solution is below the home of its hole's solution
+-- solution is below the home of its hole's solution; the records that were written have a tag, and those past them are still zero
 pub record Fine (R n : ℕ) (home : ℕ → ℕ) (s : Store) : Type 0 where
   pub room : 4 * R ≤ length (s .words)
   pub held : R ≤ length (s .solutions)
@@ -71,6 +71,8 @@ pub record Fine (R n : ℕ) (home : ℕ → ℕ) (s : Store) : Type 0 where
   pub sols : (h : ℕ) → h < R → (getD (s .solutions) h NONE ≡ NONE → ⊥) → Solved n home s h
   pub above : (q : ℕ) → q < s .used → tag (s .words) q ≡ 9 → 1 ≤ home q → (getD (s .solutions) (fieldA (s .words) q) NONE ≡ NONE → ⊥)
       → q < home (getD (s .solutions) (fieldA (s .words) q) NONE)
+  pub tagged : (r : ℕ) → n ≤ r → r < s .used → 1 ≤ tag (s .words) r
+  pub blank : (i : ℕ) → 4 * s .used ≤ i → i < 4 * R → getD (s .words) i 0 ≡ 0
 
 -- one store after another: what was written stays, and no new occurrence is of a hole that is barred
 pub record Ext (barred : ℕ → Type 0) (home : ℕ → ℕ) (s : Store) (home₁ : ℕ → ℕ) (s₁ : Store) : Type 0 where
@@ -84,6 +86,20 @@ pub record Outside (R n : ℕ) (s : Store) (ws ss : List ℕ) : Type 0 where
   pub table : filled (4 * n) (4 * (R - n)) 0 ws ≡ filled (4 * n) (4 * (R - n)) 0 (s .words)
   pub solutions : filled 0 R NONE ss ≡ filled 0 R NONE (s .solutions)
 
+-- records n to used - 1 were written and have a tag; the rest up to R is zero, and no hole there is solved
+pub record Rest (R n : ℕ) (ws ss : List ℕ) : Type 0 where
+  pub used : ℕ
+  pub since : n ≤ used
+  pub within : used ≤ R
+  pub tagged : (r : ℕ) → n ≤ r → r < used → 1 ≤ tag ws r
+  pub blank : (i : ℕ) → 4 * used ≤ i → i < 4 * R → getD ws i 0 ≡ 0
+  pub free : (h : ℕ) → used ≤ h → h < R → getD ss h NONE ≡ NONE
+
+-- words left by a failure: nothing has changed outside, and what was not written is still as it was cleared
+pub record Stopped (R n : ℕ) (s : Store) (ws ss : List ℕ) : Type 0 where
+  pub outside : Outside R n s ws ss
+  pub rest : Rest R n ws ss
+
 -- where a part of the machine goes on, its store is fine again, and its result is as said
 pub record Grown {A : Type 0} (barred : ℕ → Type 0) (Q : (ℕ → ℕ) → Store → A → Type 0) (R n : ℕ) (home : ℕ → ℕ) (s s₁ : Store) (x : A) : Type 0 where
   pub home₁ : ℕ → ℕ
@@ -92,10 +108,10 @@ pub record Grown {A : Type 0} (barred : ℕ → Type 0) (Q : (ℕ → ℕ) → S
   pub fine : Fine R n home₁ s₁
   pub root : Q home₁ s₁ x
 
--- a failure leaves what is outside, spent fuel is no result
+-- a failure leaves what is outside and what was not written, spent fuel is no result
 abbrev pub Grows : {A : Type 0} → (ℕ → Type 0) → ((ℕ → ℕ) → Store → A → Type 0) → ℕ → ℕ → (ℕ → ℕ) → Store → Out A → Type 0
 Grows barred Q R n home s (goes s₁ x) = Grown barred Q R n home s s₁ x
-Grows barred Q R n home s (fails ws ss e) = Outside R n s ws ss
+Grows barred Q R n home s (fails ws ss e) = Stopped R n s ws ss
 Grows barred Q R n home s spent = ⊥
 
 -- what is said of a term written, from record b on

@@ -14,7 +14,7 @@ use Rattle.rules.specs.Rewrite.{Writer}
 use Rattle.rules.specs.Walk.{narrow, keepPlaced, walkHole, walk}
 use Rattle.invariants.specs.Forms.{variables-few}
 use Rattle.invariants.specs.Floor.{Sub, limit, Rule, Occ, Fine, Grows, Rooted}
-use Rattle.invariants.specs.Outside.{outside-refl}
+use Rattle.invariants.specs.Outside.{fine-stopped}
 use Rattle.invariants.specs.Grow.{all-map}
 use Rattle.invariants.specs.Push.{bind-grows, map-grows}
 use Rattle.invariants.specs.Write.{Written, same-off, grows-since, occurrence-grows}
@@ -83,7 +83,7 @@ module _ (R n u b : ℕ) where
       fo = followed-occurrence m d (h .top) r (s .words) (h .low) (rule .few (omega arith) (omega arith))
 
       go : Dec (fieldA (s .words) r ≡ u) → Dec (getD (s .solutions) (fieldA (s .words) r) NONE ≡ NONE) → Walks (walkHole w R u m d r s) home s
-      go (yes e) c = rw (eq-eqb _ _ e, walkHole) (outside-refl R n s)
+      go (yes e) c = rw (eq-eqb _ _ e, walkHole) (fine-stopped R n home s (h .fine))
       go (no e) (yes c) =
           let lt = o .below in
           let lr = h .sub .below in

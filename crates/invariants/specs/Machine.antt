@@ -14,12 +14,12 @@ use Rattle.rules.specs.Store.{Store, Out, goes, fails, spent, fail, _>>=_}
 use Rattle.rules.specs.Machine.{Pair, join, run, steps, equations, machine}
 use Rattle.rules.specs.Solve.{start}
 use Rattle.invariants.specs.Floor.{Grows}
-use Rattle.invariants.specs.Outside.{outside-refl}
+use Rattle.invariants.specs.Outside.{fine-stopped}
 use Rattle.invariants.specs.Copy.{Nobody}
 use Rattle.invariants.specs.Falls.{steps-more}
 use Rattle.invariants.specs.Turn.{lefts-low}
 use Rattle.invariants.specs.Run.{Any, run-grows}
-use Rattle.invariants.specs.Start.{start-running}
+use Rattle.invariants.specs.Start.{start-fine, start-running}
 use Rattle.invariants.specs.Admit.{Admitted}
 
 -- some records are given
@@ -31,7 +31,7 @@ machine-grows asked ws ss n C a some = go (leb (0 + length q) C) refl
     q = equations (start ws ss n .words) n
 
     go : (b : Bool) → leb (0 + length q) C ≡ b → Grows Nobody Any (records ws) n (λ i. 0) (start ws ss n) (machine (records ws) C n (start ws ss n))
-    go false e = rw (e, join) (outside-refl (records ws) n (start ws ss n))
+    go false e = rw (e, join) (fine-stopped (records ws) n (λ i. 0) (start ws ss n) (start-fine ws ss n (a .sound) (a .in-table) (a .held) some))
     go true e =
         let le : 0 + length q ≤ C = leb-true _ _ e in
         let h = start-running ws ss n (a .sound) (a .in-table) (a .held) C (omega arith) in

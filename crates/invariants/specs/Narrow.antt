@@ -12,7 +12,7 @@ use Rattle.rules.specs.Store.{Store, Out, goes, fails, spent, push, pushCells, 
 use Rattle.rules.specs.Walk.{narrow}
 use Rattle.laws.specs.Lists.{Cell, Listed, listed-rest, elements-none, elements-cell}
 use Rattle.invariants.specs.Floor.{Sub, All, limit, Solved, Fine, Ext, Grown, Grows}
-use Rattle.invariants.specs.Outside.{set-outside}
+use Rattle.invariants.specs.Outside.{set-outside, unsolved}
 use Rattle.invariants.specs.Grow.{listed-of, all-map, tag-kept}
 use Rattle.invariants.specs.Push.{ext-trans, bind-grows}
 use Rattle.invariants.specs.Write.{Written, Same, Chain, push-hole, cells-grow, occurrence-grows}
@@ -52,7 +52,7 @@ module _ (R n b : ℕ) (home : ℕ → ℕ) (s : Store) (h t : ℕ) (f : Fine R 
   pub settled-fine : Fine R n home (settle h t s)
   unfolding settle
   settled-fine =
-      record { room = f .room; held = simp length-set (f .held); few = f .few; some = f .some; since = f .since; within = f .within; good = f .good; sols = settled-sols; above = settled-above }
+      record { room = f .room; held = simp length-set (f .held); few = f .few; some = f .some; since = f .since; within = f .within; good = f .good; sols = settled-sols; above = settled-above; tagged = f .tagged; blank = f .blank }
 
 -- elements of a context that can be read are records
 elements-low : (k : ℕ) (ws : List ℕ) (u l : ℕ) → Listed ws l → ((c : ℕ) → c < u → tag ws c ≡ 5 → Cell ws c) → ((l ≡ NONE → ⊥) → (l < u) × (tag ws l ≡ 5)) → l < k → All (λ y. y < u) (elements ws l)
@@ -98,13 +98,6 @@ pub record Fresh (u : ℕ) (home : ℕ → ℕ) (s : Store) (x : ℕ) : Type 0 w
   pub below : x < s .used
   pub hole : tag (s .words) x ≡ 4
   pub free : getD (s .solutions) x NONE ≡ NONE
-
-unsolved : (R n : ℕ) (home : ℕ → ℕ) (s : Store) (x : ℕ) → Fine R n home s → s .used ≤ x → x < R → getD (s .solutions) x NONE ≡ NONE
-unsolved R n home s x f h lx = go (ℕ-discrete (getD (s .solutions) x NONE) NONE)
-  where
-    go : Dec (getD (s .solutions) x NONE ≡ NONE) → getD (s .solutions) x NONE ≡ NONE
-    go (yes e) = e
-    go (no e) = let lt = f .sols x lx e .hole in absurd (omega arith)
 
 context-low : (R n : ℕ) (home : ℕ → ℕ) (s : Store) (l : ℕ) → Fine R n home s → ((l ≡ NONE → ⊥) → (l < s .used) × (tag (s .words) l ≡ 5)) → All (λ y. y < s .used) (elements (s .words) l)
 context-low R n home s l f h = elements-low (suc l) (s .words) (s .used) l (listed-of R n home s l f h) (λ c lt e. f .good c lt .cell e) h (omega arith)

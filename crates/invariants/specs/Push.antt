@@ -13,7 +13,7 @@ use borrow.Author.Tests.{lt-ltb, le-ltb, eq-eqb, ne-eqb}
 use Rattle.rules.specs.Words.{NONE, tag, fieldA, fieldB, elements}
 use Rattle.rules.specs.Store.{Store, Out, goes, fails, spent, fail, _>>=_, put, push}
 use Rattle.invariants.specs.Floor.{Sub, Args, limit, Rule, Solved, Fine, Ext, Grows}
-use Rattle.invariants.specs.Outside.{outside-refl, outside-trans, put-outside}
+use Rattle.invariants.specs.Outside.{outside-trans, put-outside, fine-stopped, stopped-after}
 use Rattle.invariants.specs.Grow.{solved-at, tag-kept, a-kept, b-kept, term-kept, sub-kept, list-kept, args-below}
 
 -- one label more
@@ -33,14 +33,15 @@ module _ (ws : List ℕ) (u t a c : ℕ) where
   unfolding put
   put-length = simp length-set
 
-  pub put-kept : (i : ℕ) → i < 4 * u → getD (put ws u t a c) i 0 ≡ getD ws i 0
+  put-other : (i : ℕ) → (i ≡ 4 * u → ⊥) → (i ≡ 4 * u + 1 → ⊥) → (i ≡ 4 * u + 2 → ⊥) → (i ≡ 4 * u + 3 → ⊥) → getD (put ws u t a c) i 0 ≡ getD ws i 0
   unfolding put
-  put-kept i h =
-      let n₀ : i ≡ 4 * u → ⊥ = omega arith in
-      let n₁ : i ≡ 4 * u + 1 → ⊥ = omega arith in
-      let n₂ : i ≡ 4 * u + 2 → ⊥ = omega arith in
-      let n₃ : i ≡ 4 * u + 3 → ⊥ = omega arith in
-      simp getD-set-other
+  put-other i n₀ n₁ n₂ n₃ = simp getD-set-other
+
+  pub put-kept : (i : ℕ) → i < 4 * u → getD (put ws u t a c) i 0 ≡ getD ws i 0
+  put-kept i h = put-other i (omega arith) (omega arith) (omega arith) (omega arith)
+
+  put-past : (i : ℕ) → 4 * (u + 1) ≤ i → getD (put ws u t a c) i 0 ≡ getD ws i 0
+  put-past i h = put-other i (omega arith) (omega arith) (omega arith) (omega arith)
 
   pub put-tag : 4 * u + 3 < length ws → tag (put ws u t a c) u ≡ t
   unfolding put
@@ -132,7 +133,7 @@ added s t a c = record { words = put (s .words) (s .used) t a c; solutions = s .
 abbrev labelled : (ℕ → ℕ) → Store → ℕ → ℕ → ℕ
 labelled home s b = λ r. upd home (s .used) b r
 
-module _ (barred : ℕ → Type 0) (R n t a c b : ℕ) (home : ℕ → ℕ) (s : Store) (f : Fine R n home s) (h : s .used < R) (bar : t ≡ 9 → barred a → ⊥) where
+module _ (barred : ℕ → Type 0) (R n t a c b : ℕ) (home : ℕ → ℕ) (s : Store) (f : Fine R n home s) (h : s .used < R) (some : 1 ≤ t) (bar : t ≡ 9 → barred a → ⊥) where
   long : 4 * s .used + 3 < length (s .words)
   long = omega arith
 
@@ -180,6 +181,13 @@ module _ (barred : ℕ → Type 0) (R n t a c b : ℕ) (home : ℕ → ℕ) (s :
           let lb = pushed .label in
           rw (z, pushed .a-is) (λ e one ne. absurd (ne (free (sym (pushed .tag-is) ∙ e) (omega arith))))
 
+  tagged-new : (r : ℕ) → n ≤ r → r < s .used + 1 → 1 ≤ tag (added s t a c .words) r
+  tagged-new r lo k = dec (decLt r (s .used))
+    where
+      dec : Dec (r < s .used) → 1 ≤ tag (added s t a c .words) r
+      dec (yes l) = rw (tag-kept barred R n home s (labelled home s b) (added s t a c) r pushed-ext l) (f .tagged r lo l)
+      dec (no l) = let z : r ≡ s .used = omega arith in rw (z, pushed .tag-is) some
+
   fine-new : (t ≡ 9 → 1 ≤ b → getD (s .solutions) a NONE ≡ NONE) → Rule (added s t a c .words) (labelled home s b) (s .used) → Fine R n (labelled home s b) (added s t a c)
   fine-new free new =
       record {
@@ -192,21 +200,23 @@ module _ (barred : ℕ → Type 0) (R n t a c b : ℕ) (home : ℕ → ℕ) (s :
         good = good-new new;
         sols = sols-new;
         above = above-new free;
+        tagged = tagged-new;
+        blank = λ i lo hi. put-past (s .words) (s .used) t a c i lo ∙ f .blank i (omega arith) hi;
       }
 
-pub push-grows : (barred : ℕ → Type 0) (R n t a c b : ℕ) (home : ℕ → ℕ) (s : Store) → Fine R n home s → b ≤ s .used
+pub push-grows : (barred : ℕ → Type 0) (R n t a c b : ℕ) (home : ℕ → ℕ) (s : Store) → Fine R n home s → b ≤ s .used → 1 ≤ t
     → (t ≡ 9 → barred a → ⊥) → (t ≡ 9 → 1 ≤ b → getD (s .solutions) a NONE ≡ NONE)
     → ((home₁ : ℕ → ℕ) (s₁ : Store) → Ext barred home s home₁ s₁ → Pushed t a c b (s .used) (s .solutions) home₁ s₁ (s .used) → Rule (s₁ .words) home₁ (s .used))
     → Grows barred (Pushed t a c b (s .used) (s .solutions)) R n home s (push R t a c s)
 unfolding push fail
-push-grows barred R n t a c b home s f le bar free new = go (decLt (s .used) R)
+push-grows barred R n t a c b home s f le some bar free new = go (decLt (s .used) R)
   where
     go : Dec (s .used < R) → Grows barred (Pushed t a c b (s .used) (s .solutions)) R n home s (push R t a c s)
     go (yes h) =
-        let e = pushed-ext barred R n t a c b home s f h bar in
-        let p = pushed barred R n t a c b home s f h bar in
-        rw (lt-ltb _ _ h, push) (record { home₁ = labelled home s b; ext = e; outside = put-outside R n s t a c (f .since) h; fine = fine-new barred R n t a c b home s f h bar free (new (labelled home s b) (added s t a c) e p); root = p })
-    go (no h) = let k : R ≤ s .used = omega arith in rw (le-ltb _ _ k, push) (outside-refl R n s)
+        let e = pushed-ext barred R n t a c b home s f h some bar in
+        let p = pushed barred R n t a c b home s f h some bar in
+        rw (lt-ltb _ _ h, push) (record { home₁ = labelled home s b; ext = e; outside = put-outside R n s t a c (f .since) h; fine = fine-new barred R n t a c b home s f h some bar free (new (labelled home s b) (added s t a c) e p); root = p })
+    go (no h) = let k : R ≤ s .used = omega arith in rw (le-ltb _ _ k, push) (fine-stopped R n home s f)
 
 -- the next part starts where one has come to
 pub ext-refl : (barred : ℕ → Type 0) (home : ℕ → ℕ) (s : Store) → Ext barred home s home s
@@ -233,7 +243,7 @@ bind-grows {B = B} barred P Q R n home s (goes s₁ x) k g f = after (k (s₁, x
   where
     after : (o : Out B) → Grows barred Q R n (g .home₁) s₁ o → Grows barred Q R n home s o
     after (goes s₂ y) h = record { home₁ = h .home₁; ext = ext-trans barred home s (g .home₁) s₁ (h .home₁) s₂ (g .ext) (h .ext); outside = outside-trans R n s s₁ (s₂ .words) (s₂ .solutions) (g .outside) (h .outside); fine = h .fine; root = h .root }
-    after (fails ws ss e) h = outside-trans R n s s₁ ws ss (g .outside) h
+    after (fails ws ss e) h = stopped-after R n s s₁ ws ss (g .outside) h
     after spent h = h
 bind-grows {B = B} barred P Q R n home s (fails ws ss e) k g f = g
 bind-grows {B = B} barred P Q R n home s spent k g f = g

@@ -14,7 +14,7 @@ use Rattle.rules.specs.Map.{Map, placeOf}
 use Rattle.rules.specs.Rewrite.{Writer, writeAll, writeTerm}
 use Rattle.invariants.specs.Forms.{form-6, form-7, form-8, form-9}
 use Rattle.invariants.specs.Floor.{Sub, All, limit, Rule, Fine, Ext, Grows}
-use Rattle.invariants.specs.Outside.{outside-refl}
+use Rattle.invariants.specs.Outside.{fine-stopped}
 use Rattle.invariants.specs.Grow.{all-map, sub-less, sub-kept}
 use Rattle.invariants.specs.Push.{bind-grows}
 use Rattle.invariants.specs.Write.{Written, WrittenList, none-written, same-off, grows-since, stays, push-head, push-lam, push-cell}
@@ -135,7 +135,7 @@ module _ (barred : ℕ → Type 0) (R n b lo most : ℕ) (Left : ℕ → ℕ →
             let a = rule .low (omega arith) (omega arith) in
             let lt = h .sub .below in
             rw (form-7 _ _ c, writeTerm) (headed CA (fieldA (s .words) r) (omega arith) (omega arith) (omega arith) (omega arith))
-        go (no t) (no c) (yes e) Nowhere q = rw (form-8 _ _ e, writeTerm, q) (outside-refl R n s)
+        go (no t) (no c) (yes e) Nowhere q = rw (form-8 _ _ e, writeTerm, q) (fine-stopped R n home s (h .fine))
         go (no t) (no c) (yes e) (At v) q =
             let a = place-low m d (h .top) (fieldA (s .words) r) v (h .low) q in
             let fi = h .fits in

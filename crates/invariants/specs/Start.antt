@@ -7,7 +7,7 @@ use native.Mathlib.Omega.{arith}
 use native.Mathlib.Nat.{le-refl}
 use borrow.Author.Tests.{eqb-true}
 use lib.ListN.{length, getD, take, replicate, length-append, length-replicate, length-drop, getD-replicate, List·getD-append}
-use lib.Seq.{length-take-le, getD-take}
+use lib.Seq.{length-take-le, getD-take, getD-append-add}
 use Rattle.rules.specs.Lists.{those, from, below}
 use Rattle.rules.specs.Words.{NONE, tag, fieldA, fieldB, EQ, has}
 use Rattle.rules.specs.Answers.{records}
@@ -25,19 +25,22 @@ use Rattle.invariants.specs.Running.{Sides, Running}
 use Rattle.invariants.specs.Input.{is-term, sound-rule}
 
 -- no hole is solved: every label is 0
-fine-start : (R n : ℕ) (s : Store) → 4 * R ≤ length (s .words) → R ≤ length (s .solutions) → R ≤ 4096 → 1 ≤ n → n ≤ s .used → s .used ≤ R
-    → ((r : ℕ) → r < s .used → Rule (s .words) (λ i. 0) r) → ((h : ℕ) → h < R → getD (s .solutions) h NONE ≡ NONE) → Fine R n (λ i. 0) s
-fine-start R n s ro he fe so si wi good free =
+fine-start : (R n : ℕ) (s : Store) → 4 * R ≤ length (s .words) → R ≤ length (s .solutions) → R ≤ 4096 → 1 ≤ n → s .used ≡ n → n ≤ R
+    → ((r : ℕ) → r < s .used → Rule (s .words) (λ i. 0) r) → ((h : ℕ) → h < R → getD (s .solutions) h NONE ≡ NONE)
+    → ((i : ℕ) → 4 * s .used ≤ i → i < 4 * R → getD (s .words) i 0 ≡ 0) → Fine R n (λ i. 0) s
+fine-start R n s ro he fe so us wi good free blank =
     record {
       room = ro;
       held = he;
       few = fe;
       some = so;
-      since = si;
-      within = wi;
+      since = omega arith;
+      within = omega arith;
       good = good;
       sols = λ h lt ne. absurd (ne (free h lt));
       above = λ q l e one ne. absurd (ne (free (fieldA (s .words) q) (omega arith)));
+      tagged = λ r lo hi. absurd (omega arith);
+      blank = blank;
     }
 
 -- what is filled: as long as before, and as before below
@@ -52,9 +55,13 @@ filled-below i k x j ws h lt =
     let l : j < length (take i ws) = rw (length-take-le i ws h) lt in
     List·getD-append (take i ws) _ 0 j l ∙ getD-take i ws j 0 lt
 
-filled-first : (k x j d : ℕ) (ws : List ℕ) → j < k → getD (filled 0 k x ws) j d ≡ x
+-- and x where it is filled
+filled-within : (i k x j d : ℕ) (ws : List ℕ) → i ≤ length ws → i ≤ j → j < i + k → getD (filled i k x ws) j d ≡ x
 unfolding filled
-filled-first k x j d ws lt = let l : j < length (replicate k x) = rw (length-replicate k x) lt in List·getD-append (replicate k x) _ d j l ∙ getD-replicate k j x d lt
+filled-within i k x j d ws h lo hi =
+    let e : j ≡ length (take i ws) + (j - i) = rw (length-take-le i ws h) (omega arith) in
+    let l : j - i < length (replicate k x) = rw (length-replicate k x) (omega arith) in
+    rw e (getD-append-add (take i ws) _ (j - i) d ∙ List·getD-append (replicate k x) _ d (j - i) l ∙ getD-replicate k (j - i) x d (omega arith))
 
 pub records-few : (ws : List ℕ) → records ws ≤ 4096
 unfolding records
@@ -86,13 +93,21 @@ module _ (ws ss : List ℕ) (n : ℕ) (g : Sound ws n) (in-table : n ≤ records
   abbrev given : Store
   given = record { words = ws; solutions = start ws ss n .solutions; used = n }
 
-  given-fine : 1 ≤ n → Fine (records ws) n (λ i. 0) given
+  start-held : records ws ≤ length (start ws ss n .solutions)
   unfolding start
+  start-held = let l : 0 + records ws ≤ length ss = omega arith in rw (filled-length 0 (records ws) NONE ss l) held
+
+  start-free : (h : ℕ) → h < records ws → getD (start ws ss n .solutions) h NONE ≡ NONE
+  unfolding start
+  start-free h lt = filled-within 0 (records ws) NONE h NONE ss (omega arith) (omega arith) (omega arith)
+
+  -- of its records only those given are looked at: the words after them may be anything
+  given-fine : 1 ≤ n → Fine n n (λ i. 0) given
   given-fine some =
       let a = records-few ws in
       let b = records-room ws in
-      let l : 0 + records ws ≤ length ss = omega arith in
-      fine-start (records ws) n given b (rw (filled-length 0 (records ws) NONE ss l) held) a some (le-refl _) in-table (sound-rule ws n g (omega arith) (omega arith)) (λ h lt. filled-first (records ws) NONE h NONE ss lt)
+      let l = start-held in
+      fine-start n n given (omega arith) (omega arith) (omega arith) some refl (le-refl _) (sound-rule ws n g (omega arith) (omega arith)) (λ h lt. start-free h (omega arith)) (λ i lo hi. absurd (omega arith))
 
   start-ext : Ext Nobody (λ i. 0) given (λ i. 0) (start ws ss n)
   unfolding start
@@ -105,10 +120,10 @@ module _ (ws ss : List ℕ) (n : ℕ) (g : Sound ws n) (in-table : n ≤ records
   start-fine some =
       let a = records-few ws in
       let b = records-room ws in
-      let f = given-fine some in
       let l : 4 * n + 4 * (records ws - n) ≤ length ws = omega arith in
-      fine-start (records ws) n (start ws ss n) (rw (filled-length (4 * n) (4 * (records ws - n)) 0 ws l) b) (f .held) a some (le-refl _) in-table
-      (λ r lt. rule-kept Nobody (records ws) n (λ i. 0) given (λ i. 0) (start ws ss n) r f start-ext lt) (λ h lt. filled-first (records ws) NONE h NONE ss lt)
+      fine-start (records ws) n (start ws ss n) (rw (filled-length (4 * n) (4 * (records ws - n)) 0 ws l) b) start-held a some refl in-table
+      (λ r lt. rule-kept Nobody n n (λ i. 0) given (λ i. 0) (start ws ss n) r (given-fine some) start-ext lt) start-free
+      (λ i lo hi. filled-within (4 * n) (4 * (records ws - n)) 0 i 0 ws (omega arith) lo (omega arith))
 
   equation-sides : (e : ℕ) → e < n → tag ws e ≡ EQ → Sides (λ i. 0) given (fieldA ws e, fieldB ws e)
   equation-sides e lt t =

@@ -18,7 +18,7 @@ use Rattle.rules.specs.Machine.{weight, Pair, Next, on, done, zip, join, agreei
 use Rattle.laws.specs.Tests.{both-true, either-true}
 use Rattle.invariants.specs.Forms.{variables-few}
 use Rattle.invariants.specs.Floor.{Sub, All, limit, Rule, Fine, Ext, Grows, Rooted}
-use Rattle.invariants.specs.Outside.{outside-refl}
+use Rattle.invariants.specs.Outside.{fine-stopped}
 use Rattle.invariants.specs.Grow.{all-map, sub-less, args-less, sub-kept}
 use Rattle.invariants.specs.Push.{ext-refl, bind-grows, map-grows}
 use Rattle.invariants.specs.Write.{stays}
@@ -92,7 +92,7 @@ module _ (R C n l r : ℕ) (q : List Pair) (home : ℕ → ℕ) (s : Store) (h :
       new = zip (arguments (s .words) l) (arguments (s .words) r)
 
       go : (b : Bool) → leb (length q + length new) C ≡ b → Meets (join C q new s >>= (λ p. goes (p .0) (done (p .1))))
-      go false e = rw (e, join) (outside-refl R n s)
+      go false e = rw (e, join) (fine-stopped R n home s fine)
       go true e =
           let c = leb-true _ _ e in
           let w = parts-lower ll in
@@ -156,7 +156,7 @@ module _ (R C n l r : ℕ) (q : List Pair) (home : ℕ → ℕ) (s : Store) (h :
       go : (a b : Bool) → has (s .words) l HA ≡ a → has (s .words) r HA ≡ b → Meets (solveOne R l r s >>= (λ p. goes (p .0) (done q)))
       go true b e f = rw (e, solveOne) (solves l r left right e)
       go false true e f = rw (e, solveOne, f) (solves r l right left f)
-      go false false e f = rw (e, solveOne, f) (outside-refl R n s)
+      go false false e f = rw (e, solveOne, f) (fine-stopped R n home s fine)
 
   pub meet-grows : Meets (meet R C q l r s)
   unfolding meet sameHead

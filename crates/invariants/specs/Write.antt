@@ -33,19 +33,19 @@ none-written b home s =
     record { args = record { here = λ q. absurd (q refl); all = rw e tt }; count = rw e }
 
 module _ (barred : ℕ → Type 0) (R n b : ℕ) (home : ℕ → ℕ) (s : Store) (f : Fine R n home s) (le : b ≤ s .used) where
-  pushing : (Q : (ℕ → ℕ) → Store → ℕ → Type 0) (t a c : ℕ) → (t ≡ 9 → barred a → ⊥) → (t ≡ 9 → 1 ≤ b → getD (s .solutions) a NONE ≡ NONE)
+  pushing : (Q : (ℕ → ℕ) → Store → ℕ → Type 0) (t a c : ℕ) → 1 ≤ t → (t ≡ 9 → barred a → ⊥) → (t ≡ 9 → 1 ≤ b → getD (s .solutions) a NONE ≡ NONE)
       → ((home₁ : ℕ → ℕ) (s₁ : Store) → Ext barred home s home₁ s₁ → Pushed t a c b (s .used) (s .solutions) home₁ s₁ (s .used) → Rule (s₁ .words) home₁ (s .used))
       → ((home₁ : ℕ → ℕ) (s₁ : Store) → Ext barred home s home₁ s₁ → Fine R n home₁ s₁ → Pushed t a c b (s .used) (s .solutions) home₁ s₁ (s .used) → Q home₁ s₁ (s .used))
       → Grows barred Q R n home s (push R t a c s)
-  pushing Q t a c bar free new fin =
-      map-grows barred (Pushed t a c b (s .used) (s .solutions)) Q R n home s (push R t a c s) (push-grows barred R n t a c b home s f le bar free new)
+  pushing Q t a c some bar free new fin =
+      map-grows barred (Pushed t a c b (s .used) (s .solutions)) Q R n home s (push R t a c s) (push-grows barred R n t a c b home s f le some bar free new)
       λ home₁ s₁ x e f₁ p. subst (λ (y : ℕ). Q home₁ s₁ y) (sym (p .is)) (fin home₁ s₁ e f₁ (record { is = refl; next = p .next; sols = p .sols; label = p .label; tag-is = p .tag-is; a-is = p .a-is; b-is = p .b-is }))
 
   -- a head over a list, no hole
   pub push-head : (t a c : ℕ) → 7 ≤ t → t ≤ 8 → a ≤ limit (s .used) → Args (s .words) home b (s .used) c → length (elements (s .words) c) ≤ 16
       → Grows barred (Same (s .solutions) (Written b (s .used))) R n home s (push R t a c s)
   push-head t a c lo hi low g few =
-      pushing (Same (s .solutions) (Written b (s .used))) t a c (λ z. absurd (omega arith)) (λ z o. absurd (omega arith))
+      pushing (Same (s .solutions) (Written b (s .used))) t a c (omega arith) (λ z. absurd (omega arith)) (λ z o. absurd (omega arith))
       (λ home₁ s₁ e p. new-rule t a c b (s .used) (s .solutions) home₁ s₁ p le (λ i j. low)
       (λ z. absurd (omega arith)) (λ i j. (args-below barred R n home s home₁ s₁ b (s .used) (s .used) c f e (le-refl _) (le-refl _) g, rw (list-kept barred R n home s home₁ s₁ c f e (g .here)) few))
       (λ z. absurd (omega arith)) (λ z. absurd (omega arith)) (λ z. absurd (omega arith)))
@@ -54,7 +54,7 @@ module _ (barred : ℕ → Type 0) (R n b : ℕ) (home : ℕ → ℕ) (s : Store
 
   pub push-lam : (a : ℕ) → Sub (s .words) home b (s .used) a → Grows barred (Same (s .solutions) (Written b (s .used))) R n home s (push R 6 a 0 s)
   push-lam a g =
-      pushing (Same (s .solutions) (Written b (s .used))) 6 a 0 (λ z. absurd (omega arith)) (λ z o. absurd (omega arith))
+      pushing (Same (s .solutions) (Written b (s .used))) 6 a 0 (omega arith) (λ z. absurd (omega arith)) (λ z o. absurd (omega arith))
       (λ home₁ s₁ e p. new-rule 6 a 0 b (s .used) (s .solutions) home₁ s₁ p le (λ i j. omega arith)
       (λ z. sub-kept barred R n home s home₁ s₁ b (s .used) (s .used) a e (le-refl _) (le-refl _) g) (λ i j. absurd (omega arith))
       (λ z. absurd (omega arith)) (λ z. absurd (omega arith)) (λ z. absurd (omega arith)))
@@ -64,7 +64,7 @@ module _ (barred : ℕ → Type 0) (R n b : ℕ) (home : ℕ → ℕ) (s : Store
   pub push-occ : (a c : ℕ) → (barred a → ⊥) → (1 ≤ b → getD (s .solutions) a NONE ≡ NONE) → a < s .used → tag (s .words) a ≡ 4 → Args (s .words) home b (s .used) c → length (elements (s .words) c) ≤ 16
       → Grows barred (Same (s .solutions) (Written b (s .used))) R n home s (push R 9 a c s)
   push-occ a c bar free lt four g few =
-      pushing (Same (s .solutions) (Written b (s .used))) 9 a c (λ z. bar) (λ z o. free o)
+      pushing (Same (s .solutions) (Written b (s .used))) 9 a c (omega arith) (λ z. bar) (λ z o. free o)
       (λ home₁ s₁ e p. new-rule 9 a c b (s .used) (s .solutions) home₁ s₁ p le (λ i j. omega arith)
       (λ z. absurd (omega arith)) (λ i j. (args-below barred R n home s home₁ s₁ b (s .used) (s .used) c f e (le-refl _) (le-refl _) g, rw (list-kept barred R n home s home₁ s₁ c f e (g .here)) few))
       (λ z. (lt, tag-kept barred R n home s home₁ s₁ a e lt ∙ four)) (λ z. absurd (omega arith)) (λ z. absurd (omega arith)))
@@ -73,7 +73,7 @@ module _ (barred : ℕ → Type 0) (R n b : ℕ) (home : ℕ → ℕ) (s : Store
 
   pub push-cell : (a c k : ℕ) → Sub (s .words) home b (s .used) a → WrittenList b k home s c → Grows barred (Same (s .solutions) (WrittenList b (suc k))) R n home s (push R 5 a c s)
   push-cell a c k g l =
-      pushing (Same (s .solutions) (WrittenList b (suc k))) 5 a c (λ z. absurd (omega arith)) (λ z o. absurd (omega arith))
+      pushing (Same (s .solutions) (WrittenList b (suc k))) 5 a c (omega arith) (λ z. absurd (omega arith)) (λ z o. absurd (omega arith))
       (λ home₁ s₁ e p. new-rule 5 a c b (s .used) (s .solutions) home₁ s₁ p le (λ i j. absurd (omega arith))
       (λ z. absurd (omega arith)) (λ i j. absurd (omega arith)) (λ z. absurd (omega arith))
       (λ z. (g .below, λ q. let h = l .args .here q in let h₀ = h .0 in (h₀, tag-kept barred R n home s home₁ s₁ c e h₀ ∙ h .1))) (λ z. absurd (omega arith)))
@@ -97,7 +97,7 @@ module _ (barred : ℕ → Type 0) (R n b : ℕ) (home : ℕ → ℕ) (s : Store
   pub push-context : (a c : ℕ) → a < s .used → ((c ≡ NONE → ⊥) → (c < s .used) × (tag (s .words) c ≡ 5))
       → Grows barred (Same (s .solutions) (λ home₁ s₁ x. (x ≡ NONE → ⊥) → (x < s₁ .used) × (tag (s₁ .words) x ≡ 5))) R n home s (push R 5 a c s)
   push-context a c g l =
-      pushing (Same (s .solutions) (λ home₁ s₁ x. (x ≡ NONE → ⊥) → (x < s₁ .used) × (tag (s₁ .words) x ≡ 5))) 5 a c (λ z. absurd (omega arith)) (λ z o. absurd (omega arith))
+      pushing (Same (s .solutions) (λ home₁ s₁ x. (x ≡ NONE → ⊥) → (x < s₁ .used) × (tag (s₁ .words) x ≡ 5))) 5 a c (omega arith) (λ z. absurd (omega arith)) (λ z o. absurd (omega arith))
       (λ home₁ s₁ e p. new-rule 5 a c b (s .used) (s .solutions) home₁ s₁ p le (λ i j. absurd (omega arith))
       (λ z. absurd (omega arith)) (λ i j. absurd (omega arith)) (λ z. absurd (omega arith))
       (λ z. (g, λ q. let h = l q in let h₀ = h .0 in (h₀, tag-kept barred R n home s home₁ s₁ c e h₀ ∙ h .1))) (λ z. absurd (omega arith)))
@@ -106,7 +106,7 @@ module _ (barred : ℕ → Type 0) (R n b : ℕ) (home : ℕ → ℕ) (s : Store
   pub push-hole : (a c : ℕ) → ((a ≡ NONE → ⊥) → (a < s .used) × (tag (s .words) a ≡ 5))
       → Grows barred (Same (s .solutions) (λ home₁ s₁ x. (x ≡ s .used) × (x < s₁ .used) × (tag (s₁ .words) x ≡ 4))) R n home s (push R 4 a c s)
   push-hole a c l =
-      pushing (Same (s .solutions) (λ home₁ s₁ x. (x ≡ s .used) × (x < s₁ .used) × (tag (s₁ .words) x ≡ 4))) 4 a c (λ z. absurd (omega arith)) (λ z o. absurd (omega arith))
+      pushing (Same (s .solutions) (λ home₁ s₁ x. (x ≡ s .used) × (x < s₁ .used) × (tag (s₁ .words) x ≡ 4))) 4 a c (omega arith) (λ z. absurd (omega arith)) (λ z o. absurd (omega arith))
       (λ home₁ s₁ e p. new-rule 4 a c b (s .used) (s .solutions) home₁ s₁ p le (λ i j. absurd (omega arith))
       (λ z. absurd (omega arith)) (λ i j. absurd (omega arith)) (λ z. absurd (omega arith)) (λ z. absurd (omega arith))
       (λ z q. let h = l q in let h₀ = h .0 in (h₀, tag-kept barred R n home s home₁ s₁ a e h₀ ∙ h .1)))

@@ -1,4 +1,5 @@
 pub mod Clearing  -- where the machine starts, and starts again
+pub mod Unused  -- the first record that was not written
 pub mod Running  -- the machine on an admitted input, and what it leaves behind
 pub mod Leaving  -- what is refused, and what is admitted
 pub mod Answering  -- a hole's answer after solving

@@ -17,7 +17,7 @@ use Rattle.rules.specs.Answers.{number, reply, records, pairs}
 use Rattle.rules.specs.Store.{Store, goes, fails, _>>=_}
 use Rattle.rules.specs.Machine.{join, run, steps, equations, machine}
 use Rattle.rules.specs.Solve.{admitted, refusal, filled, start, emptied, Behind, leaves, solve}
-use Rattle.invariants.specs.Floor.{Outside, Grows}
+use Rattle.invariants.specs.Floor.{Rest, Stopped, Grows}
 use Rattle.invariants.specs.Start.{records-few, records-room, filled-below, start-running}
 use Rattle.invariants.specs.Admit.{Admitted}
 use Rattle.invariants.specs.Machine.{machine-grows}
@@ -34,6 +34,7 @@ use Rattle.machine.specs.declared.Ran.the-variants.{Solved, Failed}
 use Rattle.machine.specs.Run.{ended}
 use Rattle.machine.specs.Start.{Noted, Started}
 use Rattle.solver.specs.Clearing.{Clearing, Cleared, clearing-on, clearing-table, clearing-solutions, pairs-held}
+use Rattle.solver.specs.Unused.{Unused, cleared-all}
 
 -- an admitted input, in R records, with the equations noted
 pub record Admits (R n : ℕ) (ws ss es : List ℕ) (k : ℕ) : Type 0 where
@@ -69,6 +70,11 @@ module _ (e : Failure) where
   unfolding number
   is-table-full q = rw q
 
+-- what the reply's words are made from: after a failure, what was not written is still cleared
+pub record Concluding (n R : ℕ) (ws ss : List ℕ) (x : Ran) : Type 0 where
+  pub clearing : Clearing n R ws ss
+  pub rest : (e : Failure) → x ≡ Failed e → Rest R n ws ss
+
 -- the reply, and the words left
 pub record Concludes (n R : ℕ) (ws ss : List ℕ) (x : Ran) (ws₁ ss₁ : List ℕ) (r : Reply) : Type 0 where
   pub solved : (u : ℕ) → x ≡ Solved u → (ws ≡ ws₁) × (ss ≡ ss₁) × (reply 0 0 u ≡ r)
@@ -82,11 +88,12 @@ module _ (n R : ℕ) (ws ss : List ℕ) (x : Ran) where
         failed = λ f q. let z : _≡_ {A = ℕ} 0 1 = cc in absurd (omega arith);
       }
 
-  pub concludes-failed : (e : Failure) (k : ℕ) (ws₁ ss₁ : List ℕ) → x ≡ Failed e → Cleared n R ws ss ws₁ ss₁ → number e ≡ k → Concludes n R ws ss x ws₁ ss₁ (reply k 0 0)
-  concludes-failed e k ws₁ ss₁ q c m =
+  pub concludes-failed : (e : Failure) (u k : ℕ) (ws₁ ss₁ : List ℕ) → Concluding n R ws ss x → x ≡ Failed e → Unused n R ws u → Cleared n u ws ss ws₁ ss₁ → number e ≡ k
+      → Concludes n R ws ss x ws₁ ss₁ (reply k 0 0)
+  concludes-failed e u k ws₁ ss₁ h q found c m =
       record {
         solved = λ v p. let z : _≡_ {A = ℕ} 0 1 = cc in absurd (omega arith);
-        failed = λ f p. let z : e ≡ f = cc in (c, ap (λ (j : ℕ). reply j 0 0) (ap number (sym z) ∙ m));
+        failed = λ f p. let z : e ≡ f = cc in (cleared-all n R u ws ss (h .clearing) found ws₁ ss₁ (h .rest e q) c, ap (λ (j : ℕ). reply j 0 0) (ap number (sym z) ∙ m));
       }
 
 -- the part of the queue that is lent on
@@ -148,9 +155,6 @@ module _ (R n : ℕ) (ws ss es : List ℕ) (k : ℕ) (a : Admits R n ws ss es k)
       let h = a .input .held in
       record { in-table = omega arith; few = omega arith; room = omega arith; held = omega arith }
 
-  pub admits-concluding : (ws₀ ss₀ ws₁ ss₁ : List ℕ) → length ws₀ ≡ length ws → length ss₀ ≡ length ss → length ws₁ ≡ length ws₀ → length ss₁ ≡ length ss₀ → Clearing n R ws₁ ss₁
-  admits-concluding ws₀ ss₀ ws₁ ss₁ e f g k = clearing-on n R ws ss admits-clearing ws₁ ss₁ (g ∙ e) (k ∙ f)
-
   start-is : (ws₀ ss₀ : List ℕ) → Cleared n R ws ss ws₀ ss₀ → start ws ss n ≡ store ws₀ ss₀ n
   unfolding start
   start-is ws₀ ss₀ c = rw (a .room, c .table, c .solutions)
@@ -173,11 +177,11 @@ module _ (R n : ℕ) (ws ss es : List ℕ) (k : ℕ) (a : Admits R n ws ss es k)
         noted = noted-cleared n R ws ss ws₀ ss₀ es k admits-clearing c (a .noted);
       }
 
-  -- where the machine fails, table and solutions are cleared again
-  failing : (C : ℕ) (ws₀ ss₀ ws₁ ss₁ : List ℕ) (e : Failure) → Cleared n R ws ss ws₀ ss₀ → machine R C n (store ws₀ ss₀ n) ≡ fails ws₁ ss₁ e → Outside R n (store ws₀ ss₀ n) ws₁ ss₁
+  -- where the machine fails, what is outside stays, and so does what was not written
+  failing : (C : ℕ) (ws₀ ss₀ ws₁ ss₁ : List ℕ) (e : Failure) → Cleared n R ws ss ws₀ ss₀ → machine R C n (store ws₀ ss₀ n) ≡ fails ws₁ ss₁ e → Stopped R n (store ws₀ ss₀ n) ws₁ ss₁
   failing C ws₀ ss₀ ws₁ ss₁ e c m = go n refl
     where
-      go : (k : ℕ) → n ≡ k → Outside R n (store ws₀ ss₀ n) ws₁ ss₁
+      go : (k : ℕ) → n ≡ k → Stopped R n (store ws₀ ss₀ n) ws₁ ss₁
       go zero z =
           let m₀ : machine R C 0 (store ws₀ ss₀ 0) ≡ fails ws₁ ss₁ e = rw z at m in
           let q : goes (store ws₀ ss₀ 0) [] ≡ fails ws₁ ss₁ e = sym (machine-none R C (store ws₀ ss₀ 0)) ∙ m₀ in
@@ -186,6 +190,11 @@ module _ (R n : ℕ) (ws ss es : List ℕ) (k : ℕ) (a : Admits R n ws ss es k)
       go (suc k) z =
           let g : Grows Nobody Any (records ws) n (λ i. 0) (start ws ss n) (machine (records ws) C n (start ws ss n)) = machine-grows true ws ss n C (a .input) (omega arith) in
           rw (a .room, start-is ws₀ ss₀ c, m) at g
+
+  pub admits-concluding : (C : ℕ) (qs ws₀ ss₀ ws₁ ss₁ qs₁ : List ℕ) (x : Ran) → Cleared n R ws ss ws₀ ss₀ → Machines R C n ws₀ ss₀ qs ws₁ ss₁ qs₁ x
+      → length ws₁ ≡ length ws → length ss₁ ≡ length ss → Concluding n R ws₁ ss₁ x
+  admits-concluding C qs ws₀ ss₀ ws₁ ss₁ qs₁ x c m e f =
+      record { clearing = clearing-on n R ws ss admits-clearing ws₁ ss₁ e f; rest = λ y z. failing C ws₀ ss₀ ws₁ ss₁ y c (rw z at (m .run)) .rest }
 
   -- the words and the reply left behind
   pub left : (C : ℕ) (qs ws₀ ss₀ ws₁ ss₁ qs₁ : List ℕ) (x : Ran) (ws₂ ss₂ qs₂ : List ℕ) (r : Reply) → pairs qs ≡ C → Cleared n R ws ss ws₀ ss₀ → Machines R C n ws₀ ss₀ qs ws₁ ss₁ qs₁ x
@@ -203,7 +212,7 @@ module _ (R n : ℕ) (ws ss es : List ℕ) (k : ℕ) (a : Admits R n ws ss es k)
       go (Solved u) z = let k = d .solved u z in rw (out (Solved u) z, leaves, q, k .0, k .1, k .2)
       go (Failed f) z =
           let k = d .failed f z in
-          let o = failing C ws₀ ss₀ ws₁ ss₁ f c (rw z at (m .run)) in
+          let o = failing C ws₀ ss₀ ws₁ ss₁ f c (rw z at (m .run)) .outside in
           let w : filled (4 * n) (4 * (R - n)) 0 ws₀ ≡ ws₀ = rw (← c .table) (filled-again (4 * n) (4 * (R - n)) 0 ws (clearing-table n R ws ss admits-clearing)) in
           let v : filled 0 R NONE ss₀ ≡ ss₀ = rw (← c .solutions) (filled-again 0 R NONE ss (clearing-solutions n R ws ss admits-clearing)) in
           let w₁ : ws₀ ≡ ws₂ = sym (o .table ∙ w) ∙ k .0 .table in

@@ -22,7 +22,8 @@ ghost use Rattle.rules.specs.Show.{show as showOf};
 ghost use Rattle.machine.specs.Start.{Started};
 ghost use Rattle.refuse.specs.Refusing.{asks, refusalOf};
 ghost use Rattle.solver.specs.Clearing.{Clearing, Cleared};
-ghost use Rattle.solver.specs.Running.{Machines, Concludes, Admits};
+ghost use Rattle.solver.specs.Unused.{Unused};
+ghost use Rattle.solver.specs.Running.{Machines, Concluding, Concludes, Admits};
 ghost use Rattle.solver.specs.Leaving.{Inside, Checking, Settling};
 ghost use Rattle.solver.specs.Answering.{Answerable, Writes, Finishes};
 
@@ -37,7 +38,7 @@ fn pairs_of(queue: &[u32]) -> usize
     1024
 }
 
-// Records n to R - 1 all zero, the first R solution words NONE: the part of the table that starts at record n is lent on.
+// Records n to room - 1 all zero, the first `room` solution words NONE: the part of the table that starts at record n is lent on.
 fn clear(table: &mut [u32], solutions: &mut [u32], n: u32, room: u32)
     requires { ⌜ Clearing n room (now table) (now solutions) ⌝ }
     ensures { λ _. ⌜ Cleared n room (now (table .entry)) (now (solutions .entry)) (now (table .exit)) (now (solutions .exit)) ⌝ }
@@ -88,9 +89,24 @@ fn run_machine(
     )
 }
 
-// The reply to what the machine came to; a failure leaves table and solutions cleared.
+// The first record from n on that was not written: its tag is 0.
+fn first_unused(table: &[u32], n: u32, room: u32) -> u32
+    requires { ⌜ (n ≤ room) × (4 * room ≤ length (now table)) ⌝ }
+    ensures { λ u. ⌜ Unused n room (now (table .entry)) u ⌝ }
+{
+    let mut at = n;
+    while at < room {
+        if table[4 * (at as usize)] == 0 {
+            return at;
+        }
+        at += 1;
+    }
+    room
+}
+
+// The reply to what the machine came to; a failure leaves table and solutions cleared: past the records written they still are.
 fn conclude(table: &mut [u32], solutions: &mut [u32], n: u32, room: u32, ran: Ran) -> Reply
-    requires { ⌜ Clearing n room (now table) (now solutions) ⌝ }
+    requires { ⌜ Concluding n room (now table) (now solutions) ran ⌝ }
     ensures { λ r. ⌜ Concludes n room (now (table .entry)) (now (solutions .entry)) ran (now (table .exit)) (now (solutions .exit)) r ⌝ }
 {
     match ran {
@@ -100,7 +116,8 @@ fn conclude(table: &mut [u32], solutions: &mut [u32], n: u32, room: u32, ran: Ra
             used: records,
         },
         Ran::Failed(failure) => {
-            clear(table, solutions, n, room);
+            let used = first_unused(table, n, room);
+            clear(table, solutions, n, used);
             Reply {
                 answer: number_of(failure),
                 place: 0,

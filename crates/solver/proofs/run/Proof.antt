@@ -19,7 +19,7 @@ run-spec =
     (λ c κs. search needs)
     (λ c κs. search admits-clearing)
     (λ c κs. search admits-started)
-    (λ c κs. search admits-concluding)
+    (λ c κs. admits-concluding _ _ _ _ _ _ (c .before .before .before .before .before .before .before .before .before .before .before .before .before .before .before .before .before .before .before .before .before .before .before .before .before .pre) _ _ _ _ _ _ _ _ (c .before .before .before .before .before .before .before .before .before .before .before .before .before .before .before .before .clear .ensures) (c .before .before .before .before .before .before .before .before .run-machine .ensures) (search needs) (search needs))
     (λ c. search pairs-fit)
     (λ c κs. search pairs-filled)
     (λ c. search needs)
