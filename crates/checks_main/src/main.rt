@@ -2,7 +2,6 @@
 // `answer place` for each, 0 0 where it is admitted.
 use checks::check;
 use libc::STDOUT_FILENO;
-use refuse::Refusal;
 use stored::fill;
 use stored::read_bytes;
 use stored::word;
@@ -22,10 +21,8 @@ fn answer(bytes: &[u8], n: usize, words: &mut [u32])
     requires { ⌜ 4 * length (now words) ≤ length (now bytes) ⌝ }
 {
     fill(bytes, 0, words);
-    match check(words, n) {
-        Refusal::Admitted { count: _ } => print(0, 0),
-        Refusal::Refused { answer, place } => print(answer, place),
-    }
+    let reply = check(words, n);
+    print(reply.answer, reply.place);
 }
 
 // One problem is read and answered; false at the end of the input, or where it has more words than there is room for.

@@ -1,13 +1,14 @@
 // Reading a file of records of 14 bytes into a table: the two-byte mark, then a, b, c little-endian.
 use rules::Found;
 use rules::Reply;
+use rules::Unread;
 ghost use mathlib.Core.Path.{_≡_};
 ghost use mathlib.Core.Bool.{not};
 ghost use mathlib.Core.List.{_++_};
 ghost use Prim.Native.Nat.{_+_, _*_, _<_, _≤_};
 ghost use lib.ListN.{length, drop};
 ghost use Rattle.rules.specs.Lists.{lowest};
-ghost use Rattle.rules.specs.Answers.{reply};
+ghost use Rattle.rules.specs.Answers.{reply as replyOf, unreading as unreadingOf};
 ghost use Rattle.rules.specs.File.{marked, word, isKnown, tagWord, fileWords, read as readOf};
 ghost use Rattle.file.specs.Marks.{tagOf};
 ghost use Rattle.file.specs.Writing.{stored, Fitting};
@@ -109,14 +110,25 @@ pub fn write_records(file: &[u8], table: &mut [u32], n: u32)
     }
 }
 
-// The reply to a file that is refused.
-fn refused(answer: u32, place: u32) -> Reply
-    ensures { λ r. ⌜ reply answer place 0 ≡ r ⌝ }
+// A reply with nothing used.
+fn reply(answer: u32, place: u32) -> Reply
+    ensures { λ r. ⌜ replyOf answer place 0 ≡ r ⌝ }
 {
     Reply {
         answer,
         place,
         used: 0,
+    }
+}
+
+// The reply to each file that is not read.
+fn unreading(unread: Unread) -> Reply
+    ensures { λ r. ⌜ unreadingOf unread ≡ r ⌝ }
+{
+    match unread {
+        Unread::BadLength => reply(12, 0),
+        Unread::SmallTable => reply(4, 0),
+        Unread::UnknownMark(place) => reply(13, place),
     }
 }
 
@@ -126,17 +138,17 @@ pub fn read(file: &[u8], table: &mut [u32]) -> Reply
 {
     let len = file.len();
     if 28672 < len {
-        return refused(12, 0);
+        return unreading(Unread::BadLength);
     }
     if len % 14 != 0 {
-        return refused(12, 0);
+        return unreading(Unread::BadLength);
     }
     let n = (len / 14) as u32;
     if table.len() / 4 < n as usize {
-        return refused(4, 0);
+        return unreading(Unread::SmallTable);
     }
     match lowest_unknown(file, n) {
-        Found::At(r) => refused(13, r),
+        Found::At(r) => unreading(Unread::UnknownMark(r)),
         Found::Nowhere => {
             write_records(file, table, n);
             Reply {

@@ -11,7 +11,7 @@ use Rattle.rules.specs.declared.Found.{Found}
 use Rattle.rules.specs.declared.Found.the-variants.{At, Nowhere}
 use Rattle.rules.specs.Lists.{either}
 use Rattle.rules.specs.Words.{NONE}
-use Rattle.rules.specs.Answers.{records}
+use Rattle.rules.specs.Answers.{refusing, records}
 use Rattle.rules.specs.Records.{broken}
 use Rattle.rules.specs.Typing.{ill-typed}
 use Rattle.rules.specs.Pattern.{no-pattern}
@@ -28,7 +28,7 @@ pub record Admitted (asked : Bool) (ws ss : List ℕ) (n : ℕ) : Type 0 where
 -- an answer that refuses is 4 to 10
 abbrev pub Says : Bool → List ℕ → List ℕ → ℕ → Refusal → Type 0
 Says asked ws ss n admitted = Admitted asked ws ss n
-Says asked ws ss n (refused a p) = (4 ≤ a) × (a ≤ 10)
+Says asked ws ss n (refused x) = (4 ≤ refusing x .answer) × (refusing x .answer ≤ 10)
 
 pub refusal-says : (asked : Bool) (ws ss : List ℕ) (n : ℕ) → Says asked ws ss n (refusal asked ws ss n)
 unfolding refusal either

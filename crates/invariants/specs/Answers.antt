@@ -36,7 +36,7 @@ number-low TableFull = (omega arith, omega arith)
 -- what solving leaves says an answer of the document
 leaves-low : (asked : Bool) (ws ss qs : List ℕ) (n : ℕ) (f : Refusal) → Says asked ws ss n f → leaves f ws ss qs n .said .answer ≤ 10
 unfolding leaves
-leaves-low asked ws ss qs n (refused a p) h = h .1
+leaves-low asked ws ss qs n (refused x) h = h .1
 leaves-low asked ws ss qs n admitted h = go (machine (records ws) (pairs qs) n (start ws ss n)) refl (machine-ended asked ws ss n (pairs qs) h)
   where
     go : (o : Out (List Pair)) → machine (records ws) (pairs qs) n (start ws ss n) ≡ o → Ended o → leaves admitted ws ss qs n .said .answer ≤ 10
@@ -106,7 +106,7 @@ show-says ws ss qs os n h = said (refusal (both (ltb h n) (has ws h HO)) ws ss n
     ran a spent i g = absurd g
 
     said : (f : Refusal) → Says (both (ltb h n) (has ws h HO)) ws ss n f → Answers os (shows (leaves f ws ss qs n) os h)
-    said (refused a p) i = let i₀ = i .0 in let i₁ = i .1 in shows-same (leaves (refused a p) ws ss qs n) os h (omega arith) i₁
+    said (refused x) i = let i₀ = i .0 in let i₁ = i .1 in shows-same (leaves (refused x) ws ss qs n) os h (omega arith) i₁
     said admitted a =
         let lt : h < n = ltb-true _ _ (both-true _ _ (a .is) .0) in
         ran a (machine (records ws) (pairs qs) n (start ws ss n)) refl (machine-grows (both (ltb h n) (has ws h HO)) ws ss n (pairs qs) a (omega arith))

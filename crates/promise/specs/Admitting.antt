@@ -10,6 +10,7 @@ use lib.Dec.{eqb, ltb}
 use borrow.Author.Tests.{ltb-false, eqb-true, eqb-false, eq-eqb}
 use Rattle.rules.specs.declared.Found.{Found}
 use Rattle.rules.specs.declared.Found.the-variants.{At, Nowhere}
+use Rattle.rules.specs.declared.Refused.the-variants.{NoRoom, Broken, IllTyped, NoPattern}
 use Rattle.rules.specs.Lists.{both, either, those, from, below, first, lowest, least, enough}
 use Rattle.rules.specs.Words.{tag, fieldA, fieldB, fieldC, NONE, EQ, has, isTerm}
 use Rattle.rules.specs.Answers.{records}
@@ -41,10 +42,10 @@ pub record Admitted (ws ss : List ℕ) (n : ℕ) : Type 0 where
 -- the refusals
 pub data Refuses (ws ss : List ℕ) (n : ℕ) : Refusal → Type 0 where
   admits : Admitted ws ss n → Refuses ws ss n admitted
-  short : Refuses ws ss n (refused 4 0)
-  breaks : {r : ℕ} → Refuses ws ss n (refused 5 r)
-  ill : {r : ℕ} → n ≤ records ws → Sound ws n → ill-typed ws n ≡ At r → Refuses ws ss n (refused 6 r)
-  offends : {r : ℕ} → n ≤ records ws → Sound ws n → no-pattern ws n ≡ r → (r ≡ NONE → ⊥) → Refuses ws ss n (refused 7 r)
+  short : Refuses ws ss n (refused NoRoom)
+  breaks : {r : ℕ} → Refuses ws ss n (refused (Broken r))
+  ill : {r : ℕ} → n ≤ records ws → Sound ws n → ill-typed ws n ≡ At r → Refuses ws ss n (refused (IllTyped r))
+  offends : {r : ℕ} → n ≤ records ws → Sound ws n → no-pattern ws n ≡ r → (r ≡ NONE → ⊥) → Refuses ws ss n (refused (NoPattern r))
 
 either-false : (a b : Bool) → either a b ≡ false → (a ≡ false) × (b ≡ false)
 unfolding either

@@ -64,10 +64,10 @@ solve-right ws ss qs n = go (refusal true ws ss n)
 
     go : (r : Refusal)
         → (elim r as (λ _. Behind) [
-          | refused a p ↦ leaves (refused a p) ws ss qs n
+          | refused x ↦ leaves (refused x) ws ss qs n
           | admitted ↦ stopped ws ss qs n (join C [] (equations (start ws ss n .words) n) (start ws ss n) >>= λ (s₁, q). runBy step (steps R C) R C q s₁)
         ]) ≡ leaves r ws ss qs n
-    go (refused a p) = refl
+    go (refused x) = refl
     go admitted = ap (stopped ws ss qs n) same
 
 -- CALLING P12 A CYCLE: the right side is not expanded before the hole is compared

@@ -8,7 +8,8 @@ use native.Mathlib.Omega.{arith}
 use Rattle.rules.specs.declared.Failure.{Failure}
 use Rattle.rules.specs.declared.Failure.the-variants.{Clash, Escape, Occurs, QueueFull, TableFull}
 use Rattle.rules.specs.declared.Found.the-variants.{At, Nowhere}
-use Rattle.rules.specs.Answers.{number, reply, records, pairs}
+use Rattle.rules.specs.declared.Refused.{Refused}
+use Rattle.rules.specs.Answers.{number, reply, refusing, records, pairs}
 use Rattle.rules.specs.Store.{Store, Out, goes, fails, spent}
 use Rattle.rules.specs.Machine.{Pair, machine}
 use Rattle.rules.specs.Solve.{Refusal, admitted, refused, refusal, start, emptied, Behind, leaves, solve}
@@ -143,12 +144,12 @@ solve-final ws ss qs n e = refused-or (refusal true ws ss n) refl (refusal-is ws
     ends a r (fails vs rs f) m (failed k) = absurd (let z : number f ≡ 0 = rw (r, m, leaves) at e in omega (arith, number-other f .0))
     ends a r spent m unsaid = absurd (let z : _≡_ {A = ℕ} 4294967295 0 = rw (r, m, leaves) at e in omega arith)
 
-    no : (j p : ℕ) → refusal true ws ss n ≡ refused j p → 4 ≤ j → Solution ws ss qs n
-    no j p r h = absurd (let z : j ≡ 0 = rw (r, leaves) at e in omega arith)
+    no : (x : Refused) → refusal true ws ss n ≡ refused x → 4 ≤ refusing x .answer → Solution ws ss qs n
+    no x r h = absurd (let z : refusing x .answer ≡ 0 = rw (r, leaves) at e in omega arith)
 
     refused-or : (o : Refusal) → refusal true ws ss n ≡ o → Refuses ws ss n o → Solution ws ss qs n
     refused-or admitted r (admits a) = ends a r (machine (records ws) (pairs qs) n (start ws ss n)) refl (machine-ends ws ss (pairs qs) n a)
-    refused-or (refused j p) r short = no j p r (omega arith)
-    refused-or (refused j p) r breaks = no j p r (omega arith)
-    refused-or (refused j p) r (ill h g k) = no j p r (omega arith)
-    refused-or (refused j p) r (offends h g k m) = no j p r (omega arith)
+    refused-or (refused x) r short = no x r (omega arith)
+    refused-or (refused x) r breaks = no x r (omega arith)
+    refused-or (refused x) r (ill h g k) = no x r (omega arith)
+    refused-or (refused x) r (offends h g k m) = no x r (omega arith)

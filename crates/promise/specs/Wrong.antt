@@ -98,7 +98,7 @@ stopped ws ss qs n o =
 
 -- the same after the right refusals
 unfoldable pub closed : List ℕ → List ℕ → List ℕ → ℕ → Out (List Pair) → Behind
-closed ws ss qs n o = elim (refusal true ws ss n) [ refused a p ↦ leaves (refused a p) ws ss qs n | admitted ↦ stopped ws ss qs n o ]
+closed ws ss qs n o = elim (refusal true ws ss n) [ refused x ↦ leaves (refused x) ws ss qs n | admitted ↦ stopped ws ss qs n o ]
 
 -- TREATS THE FIRST PAIR and only empties the queue of the others
 pub first-pair : Solver

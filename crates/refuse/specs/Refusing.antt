@@ -9,11 +9,14 @@ use lib.Dec.{eqb, ltb}
 use borrow.Author.Tests.{lt-ltb, le-ltb, ltb-false}
 use Rattle.rules.specs.declared.Found.{Found}
 use Rattle.rules.specs.declared.Found.the-variants.{At, Nowhere}
+use Rattle.rules.specs.declared.Reply.{Reply}
+use Rattle.rules.specs.declared.Refused.{Refused as Why}
+use Rattle.rules.specs.declared.Refused.the-variants.{NoRoom, Broken as BrokenAt, NoHole, IllTyped as IllTypedAt, NoPattern as NoPatternAt}
 use Rattle.table.specs.declared.Record.{Record}
 use Rattle.table.specs.Reading.{IsRecord}
 use Rattle.rules.specs.Lists.{both, either, those, below}
 use Rattle.rules.specs.Words.{NONE, HO, EQ, has}
-use Rattle.rules.specs.Answers.{records}
+use Rattle.rules.specs.Answers.{refusing, records}
 use Rattle.rules.specs.Records.{broken}
 use Rattle.rules.specs.Typing.{ill-typed}
 use Rattle.rules.specs.Pattern.{no-pattern}
@@ -35,7 +38,7 @@ use Rattle.refuse.specs.declared.Refusal.the-variants.{Admitted, Refused
 -- the code's refusal as the rules have it
 abbrev pub refusalOf : Refusal → Refuses
 refusalOf (Admitted k) = admitted
-refusalOf (Refused a p) = refused a p
+refusalOf (Refused x) = refused x
 
 -- record h is an input hole
 unfoldable pub isHole : List ℕ → ℕ → ℕ → Bool
@@ -48,15 +51,15 @@ asks (Asking h) ws n = isHole ws n h
 
 -- 6 and 7
 unfoldable pub typed : List ℕ → ℕ → Refuses
-typed ws n = elim (ill-typed ws n) [ At r ↦ refused 6 r | Nowhere ↦ elim (eqb (no-pattern ws n) NONE) [ false ↦ refused 7 (no-pattern ws n) | true ↦ admitted ] ]
+typed ws n = elim (ill-typed ws n) [ At r ↦ refused (IllTypedAt r) | Nowhere ↦ elim (eqb (no-pattern ws n) NONE) [ false ↦ refused (NoPatternAt (no-pattern ws n)) | true ↦ admitted ] ]
 
 -- 10, then 6 and 7
 unfoldable pub asking : Bool → List ℕ → ℕ → Refuses
-asking b ws n = elim b [ false ↦ refused 10 0 | true ↦ typed ws n ]
+asking b ws n = elim b [ false ↦ refused NoHole | true ↦ typed ws n ]
 
 -- 5, then the others
 unfoldable pub sound : Bool → List ℕ → ℕ → Refuses
-sound b ws n = elim (broken ws n) [ At r ↦ refused 5 r | Nowhere ↦ asking b ws n ]
+sound b ws n = elim (broken ws n) [ At r ↦ refused (BrokenAt r) | Nowhere ↦ asking b ws n ]
 
 -- answer 4
 unfoldable pub outside : List ℕ → List ℕ → ℕ → Bool
@@ -83,6 +86,10 @@ pub record Settled (ws es : List ℕ) (n : ℕ) (b : Bool) (r : Refusal) : Type 
   pub noted : (k : ℕ) → r ≡ Admitted k → take k es ≡ those (λ e. has ws e EQ) (below n)
   pub held : (k : ℕ) → r ≡ Admitted k → k ≤ length es
 
+-- the reply to a refusal is that to its case
+pub refusing-case : (x y : Why) (r : Reply) → x ≡ y → refusing y ≡ r → refusing x ≡ r
+refusing-case x y r e q = ap refusing e ∙ q
+
 module _ (ws : List ℕ) where
   pub room-less : (k : ℕ) → length ws / 4 ≡ k → k < 4096 → records ws ≡ k
   unfolding records
@@ -94,12 +101,12 @@ module _ (ws : List ℕ) where
 
 module _ (ws : List ℕ) (n : ℕ) where
   -- what is judged gives 6 and 7
-  judged-typed : typed ws n ≡ elim (judged ws n) [ Fine ↦ admitted | IllTyped p ↦ refused 6 p | NoPattern p ↦ refused 7 p ]
+  judged-typed : typed ws n ≡ elim (judged ws n) [ Fine ↦ admitted | IllTyped p ↦ refused (IllTypedAt p) | NoPattern p ↦ refused (NoPatternAt p) ]
   unfolding typed judged
   judged-typed = go (ill-typed ws n) (eqb (no-pattern ws n) NONE) refl refl
     where
       go : (f : Found) (b : Bool) → ill-typed ws n ≡ f → eqb (no-pattern ws n) NONE ≡ b
-          → typed ws n ≡ elim (judged ws n) [ Fine ↦ admitted | IllTyped p ↦ refused 6 p | NoPattern p ↦ refused 7 p ]
+          → typed ws n ≡ elim (judged ws n) [ Fine ↦ admitted | IllTyped p ↦ refused (IllTypedAt p) | NoPattern p ↦ refused (NoPatternAt p) ]
       go (At r) b e q = rw (e, typed, judged)
       go Nowhere true e q = rw (e, q, typed, judged)
       go Nowhere false e q = rw (e, q, typed, judged)
@@ -114,18 +121,18 @@ module _ (ws : List ℕ) (n : ℕ) where
   hole-past h le = rw (le-ltb _ _ le)
 
 -- a refusal is not admitted
-refused-says : (x : Refuses) (k a p : ℕ) → x ≡ refused a p → Says x k (Refused a p)
-refused-says x k a p e = record { says = e; count = λ j z. absurd (let q : _≡_ {A = ℕ} 0 1 = cc in omega arith) }
+refused-says : (x : Refuses) (k : ℕ) (why : Why) → x ≡ refused why → Says x k (Refused why)
+refused-says x k why e = record { says = e; count = λ j z. absurd (let q : _≡_ {A = ℕ} 0 1 = cc in omega arith) }
 
 admitted-says : (x : Refuses) (k : ℕ) → x ≡ admitted → Says x k (Admitted k)
 admitted-says x k e = record { says = e; count = λ j z. cc }
 
 module _ (ws es : List ℕ) (k : ℕ) (x : Judged) (e : Judges ws es k x) where
-  pub ill-typed-at : (p : ℕ) → x ≡ IllTyped p → TermsSay ws es k (Refused 6 p)
-  ill-typed-at p z = record { says = λ n q. refused-says _ k 6 p (judged-typed ws n ∙ rw (sym (e .says n q) ∙ z)) }
+  pub ill-typed-at : (p : ℕ) → x ≡ IllTyped p → TermsSay ws es k (Refused (IllTypedAt p))
+  ill-typed-at p z = record { says = λ n q. refused-says _ k (IllTypedAt p) (judged-typed ws n ∙ rw (sym (e .says n q) ∙ z)) }
 
-  pub no-pattern-at : (p : ℕ) → x ≡ NoPattern p → TermsSay ws es k (Refused 7 p)
-  no-pattern-at p z = record { says = λ n q. refused-says _ k 7 p (judged-typed ws n ∙ rw (sym (e .says n q) ∙ z)) }
+  pub no-pattern-at : (p : ℕ) → x ≡ NoPattern p → TermsSay ws es k (Refused (NoPatternAt p))
+  no-pattern-at p z = record { says = λ n q. refused-says _ k (NoPatternAt p) (judged-typed ws n ∙ rw (sym (e .says n q) ∙ z)) }
 
   pub typed-all : x ≡ Fine → TermsSay ws es k (Admitted k)
   typed-all z = record { says = λ n q. admitted-says _ k (judged-typed ws n ∙ rw (sym (e .says n q) ∙ z)) }
@@ -140,13 +147,13 @@ module _ (ws st es : List ℕ) (k n : ℕ) (p : AskedAsks ws st es k n) (asked :
   unfolding asks asking
   asking-hole h b r e i t s = rw (e, i, t) (s .says n (p .noted))
 
-  pub asking-none : (h : ℕ) (b : Bool) → asked ≡ Asking h → isHole ws n h ≡ b → b ≡ false → Says (asking (asks asked ws n) ws n) k (Refused 10 0)
+  pub asking-none : (h : ℕ) (b : Bool) → asked ≡ Asking h → isHole ws n h ≡ b → b ≡ false → Says (asking (asks asked ws n) ws n) k (Refused NoHole)
   unfolding asks asking
-  asking-none h b e i t = refused-says _ k 10 0 (rw (e, i, t))
+  asking-none h b e i t = refused-says _ k NoHole (rw (e, i, t))
 
 -- what the pass over the records found
 module _ (ws es : List ℕ) (n : ℕ) (x : Pass) (e : BrokenSays ws es n x) where
-  pub broken-at : (b : Bool) (p : ℕ) → x ≡ Broken p → Settled ws es n b (Refused 5 p)
+  pub broken-at : (b : Bool) (p : ℕ) → x ≡ Broken p → Settled ws es n b (Refused (BrokenAt p))
   unfolding sound
   broken-at b p z =
       let f : broken ws n ≡ At p = sym (e .found) ∙ ap foundOf z in
@@ -205,7 +212,7 @@ module _ (ws ss : List ℕ) (n R : ℕ) (room : records ws ≡ R) where
 
 -- 4, then the others
 module _ (ws ss : List ℕ) (n : ℕ) where
-  pub outside-refused : (b : Bool) → outside ws ss n ≡ true → refusal b ws ss n ≡ refused 4 0
+  pub outside-refused : (b : Bool) → outside ws ss n ≡ true → refusal b ws ss n ≡ refused NoRoom
   unfolding refusal outside
   outside-refused b e = rw (e, refusal)
 

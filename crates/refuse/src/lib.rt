@@ -1,12 +1,14 @@
 // The order of refusals before the machine: 4, 5, 10, 6, 7.
 use records::Pass;
 use records::broken;
+use rules::Refused;
+use rules::Reply;
 use table::HO;
 use table::read;
 use typing::Judged;
 use typing::judge;
 ghost use mathlib.Core.Path.{_≡_};
-ghost use Rattle.rules.specs.Answers.{records};
+ghost use Rattle.rules.specs.Answers.{reply as replyOf, refusing as refusingOf, records};
 ghost use Rattle.laws.specs.Members.{Legal};
 ghost use Rattle.typing.specs.Asks.{JudgeAsks};
 ghost use Rattle.records.specs.Rows.{BrokenAsks};
@@ -18,10 +20,34 @@ pub enum Asked {
     Record(usize),
 }
 
-// What comes before the machine: nothing but the number of equations, or an answer and its place.
+// What comes before the machine: nothing but the number of equations, or why the input is refused.
 pub enum Refusal {
     Admitted { count: usize },
-    Refused { answer: u32, place: u32 },
+    Refused(Refused),
+}
+
+// A reply with nothing used.
+fn reply(answer: u32, place: u32) -> Reply
+    ensures { λ r. ⌜ replyOf answer place 0 ≡ r ⌝ }
+{
+    Reply {
+        answer,
+        place,
+        used: 0,
+    }
+}
+
+// The reply to each refusal: this paper's number, its place, and nothing used.
+pub fn refusing(refused: Refused) -> Reply
+    ensures { λ r. ⌜ refusingOf refused ≡ r ⌝ }
+{
+    match refused {
+        Refused::NoRoom => reply(4, 0),
+        Refused::Broken(place) => reply(5, place),
+        Refused::NoHole => reply(10, 0),
+        Refused::IllTyped(place) => reply(6, place),
+        Refused::NoPattern(place) => reply(7, place),
+    }
 }
 
 // R: the length divided by 4, rounded down, at most 4,096.
@@ -53,8 +79,8 @@ fn refuse_terms(table: &[u32], stack: &mut [u16], equations: &[u16], count: usiz
 {
     match judge(table, stack, equations, count) {
         Judged::Fine => Refusal::Admitted { count },
-        Judged::IllTyped(place) => Refusal::Refused { answer: 6, place },
-        Judged::NoPattern(place) => Refusal::Refused { answer: 7, place },
+        Judged::IllTyped(place) => Refusal::Refused(Refused::IllTyped(place)),
+        Judged::NoPattern(place) => Refusal::Refused(Refused::NoPattern(place)),
     }
 }
 
@@ -88,10 +114,7 @@ fn refuse_asked(
             if is_hole(table, n, at) {
                 return refuse_terms(table, stack, equations, count);
             }
-            Refusal::Refused {
-                answer: 10,
-                place: 0,
-            }
+            Refusal::Refused(Refused::NoHole)
         }
     }
 }
@@ -111,7 +134,7 @@ pub fn refuse(
     ensures { λ r. ⌜ Settled (now (table .entry)) (now (equations .exit)) n (asks asked (now (table .entry)) n) r ⌝ }
 {
     match broken(table, marks, last, before, equations, n) {
-        Pass::Broken(place) => Refusal::Refused { answer: 5, place },
+        Pass::Broken(place) => Refusal::Refused(Refused::Broken(place)),
         Pass::Sound(count) => refuse_asked(table, last, equations, count, n, asked),
     }
 }

@@ -7,7 +7,7 @@ use lib.Dec.{ltb}
 use Rattle.rules.specs.declared.Reply.{Reply}
 use Rattle.rules.specs.Lists.{both, below, enough}
 use Rattle.rules.specs.Words.{fieldA, HO, has, elements, variables}
-use Rattle.rules.specs.Answers.{reply, records}
+use Rattle.rules.specs.Answers.{reply, too-few, records}
 use Rattle.rules.specs.Store.{Store, Out, goes, fails, spent, pushOccurrence, solved, solution}
 use Rattle.rules.specs.Map.{Map, targets, toVariables, follow}
 use Rattle.rules.specs.Rewrite.{Writer, writeTerm}
@@ -50,7 +50,7 @@ shows l os h =
       | zero ↦
           elim (answer (records os) (l .table) h (record { words = blank; solutions = l .solutions; used = 0 })) [
             | goes s r ↦ record { behind = answering l (reply 0 0 (s .used)); output = s .words }
-            | fails ws ss e ↦ record { behind = answering l (reply 11 0 0); output = blank }
+            | fails ws ss e ↦ record { behind = answering l (too-few); output = blank }
             | spent ↦ record { behind = unsaid; output = [] }
           ]
       | suc k ↦ record { behind = l; output = os }

@@ -5,33 +5,35 @@ use mathlib.Core.List.{List, [], _++_}
 use lib.ListN.{length, take, drop, replicate}
 use lib.Dec.{eqb, ltb}
 use Rattle.rules.specs.declared.Found.the-variants.{At, Nowhere}
+use Rattle.rules.specs.declared.Refused.{Refused}
+use Rattle.rules.specs.declared.Refused.the-variants.{NoRoom, Broken, NoHole, IllTyped, NoPattern}
 use Rattle.rules.specs.declared.Reply.{Reply}
 use Rattle.rules.specs.Lists.{either}
 use Rattle.rules.specs.Words.{NONE}
-use Rattle.rules.specs.Answers.{number, reply, records, pairs}
+use Rattle.rules.specs.Answers.{number, reply, refusing, records, pairs}
 use Rattle.rules.specs.Records.{broken}
 use Rattle.rules.specs.Typing.{ill-typed}
 use Rattle.rules.specs.Pattern.{no-pattern}
 use Rattle.rules.specs.Store.{Store, goes, fails, spent}
 use Rattle.rules.specs.Machine.{machine}
 
--- what comes before the machine: nothing, or an answer and its place
+-- what comes before the machine: nothing, or why the input is refused
 pub data Refusal : Type 0 where
   admitted : Refusal
-  refused : ℕ → ℕ → Refusal
+  refused : Refused → Refusal
 
 -- order: 4, 5, 10, 6, 7; `asked` is false where show is asked for no input hole
 unfoldable pub refusal : Bool → List ℕ → List ℕ → ℕ → Refusal
 refusal asked ws ss n =
     elim (either (ltb (records ws) n) (ltb (length ss) (records ws))) [
-      | true ↦ refused 4 0
+      | true ↦ refused NoRoom
       | false ↦ elim (broken ws n) [
-        | At r ↦ refused 5 r
+        | At r ↦ refused (Broken r)
         | Nowhere ↦ elim asked [
-          | false ↦ refused 10 0
+          | false ↦ refused NoHole
           | true ↦ elim (ill-typed ws n) [
-            | At r ↦ refused 6 r
-            | Nowhere ↦ elim (eqb (no-pattern ws n) NONE) [ false ↦ refused 7 (no-pattern ws n) | true ↦ admitted ]
+            | At r ↦ refused (IllTyped r)
+            | Nowhere ↦ elim (eqb (no-pattern ws n) NONE) [ false ↦ refused (NoPattern (no-pattern ws n)) | true ↦ admitted ]
           ]
         ]
       ]
@@ -62,7 +64,7 @@ unsaid = record { table = []; solutions = []; queue = []; said = reply NONE 0 0 
 
 -- what is left behind. 4 to 7 and 10: nothing is written; 0: what the machine wrote; 1, 2, 3, 8, 9: all as where the machine started
 unfoldable pub leaves : Refusal → List ℕ → List ℕ → List ℕ → ℕ → Behind
-leaves (refused a p) ws ss qs n = record { table = ws; solutions = ss; queue = qs; said = reply a p 0 }
+leaves (refused x) ws ss qs n = record { table = ws; solutions = ss; queue = qs; said = refusing x }
 leaves admitted ws ss qs n =
     let s = start ws ss n in
     elim (machine (records ws) (pairs qs) n s) [

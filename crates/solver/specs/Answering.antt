@@ -16,7 +16,7 @@ use Rattle.rules.specs.declared.Reply.{Reply}
 use Rattle.rules.specs.Lists.{below}
 use Rattle.rules.specs.Map.{toVariables}
 use Rattle.rules.specs.Words.{NONE, HO, CE, tag, fieldA, has, elements}
-use Rattle.rules.specs.Answers.{number, reply, records, pairs}
+use Rattle.rules.specs.Answers.{number, reply, refusing, too-few, records, pairs}
 use Rattle.rules.specs.Store.{Store, Out, goes, fails, spent}
 use Rattle.rules.specs.Machine.{Pair, machine}
 use Rattle.rules.specs.Solve.{Refusal as Refuses, admitted, refused, refusal, filled, start, Behind, leaves}
@@ -61,7 +61,7 @@ pub record Answerable (ws ss : List ℕ) (h : ℕ) : Type 0 where
 -- the reply, and the words left
 pub record Finishes (O : ℕ) (os : List ℕ) (x : Walked) (os₁ : List ℕ) (r : Reply) : Type 0 where
   pub root : (t u : ℕ) → x ≡ Root t u → (os ≡ os₁) × (reply 0 0 u ≡ r)
-  pub failed : (e : Failure) → x ≡ Failed e → (filled 0 (4 * O) 0 os ≡ os₁) × (reply 11 0 0 ≡ r)
+  pub failed : (e : Failure) → x ≡ Failed e → (filled 0 (4 * O) 0 os ≡ os₁) × (too-few ≡ r)
 
 module _ (O : ℕ) (os : List ℕ) (x : Walked) where
   pub finishes-root : (t u : ℕ) → x ≡ Root t u → Finishes O os x os (reply 0 0 u)
@@ -71,8 +71,8 @@ module _ (O : ℕ) (os : List ℕ) (x : Walked) where
         failed = λ f q. let z : _≡_ {A = ℕ} 0 1 = cc in absurd (omega arith);
       }
 
-  pub finishes-failed : (e : Failure) (os₁ : List ℕ) → x ≡ Failed e → filled 0 (4 * O) 0 os ≡ os₁ → Finishes O os x os₁ (reply 11 0 0)
-  finishes-failed e os₁ q c = record { root = λ t u p. let z : _≡_ {A = ℕ} 0 1 = cc in absurd (omega arith); failed = λ f p. (c, refl) }
+  pub finishes-failed : (e : Failure) (os₁ : List ℕ) (r : Reply) → x ≡ Failed e → filled 0 (4 * O) 0 os ≡ os₁ → too-few ≡ r → Finishes O os x os₁ r
+  finishes-failed e os₁ r q c s = record { root = λ t u p. let z : _≡_ {A = ℕ} 0 1 = cc in absurd (omega arith); failed = λ f p. (c, s) }
 
 -- after solving answered 0, show writes this and replies so
 pub record Writes (ws ss : List ℕ) (h : ℕ) (os os₁ : List ℕ) (r : Reply) : Type 0 where
@@ -209,9 +209,9 @@ module _ (asked : Asked) (ws ss qs : List ℕ) (n h : ℕ) (ws₁ ss₁ qs₁ : 
       ran a f spent m g = absurd g
 
       go : (f : Refuses) → refusal (isHole ws n h) ws ss n ≡ f → Says (isHole ws n h) ws ss n f → Answerable ws₁ ss₁ h
-      go (refused k p) f s =
+      go (refused x) f s =
           let b = rw f at left in
-          let c : k ≡ r .answer = ap (λ (l : Behind). l .said .answer) b in
+          let c : refusing x .answer ≡ r .answer = ap (λ (l : Behind). l .said .answer) b in
           let d = s .0 in
           absurd (omega arith)
       go admitted f a =

@@ -7,7 +7,10 @@ use native.Mathlib.Omega.{arith}
 use lib.ListN.{replicate}
 use mir.Syntax.{w32}
 use mir.Val.{Fits}
-use Rattle.rules.specs.Answers.{reply, records}
+use Rattle.rules.specs.declared.Reply.{Reply}
+use Rattle.rules.specs.declared.Refused.{Refused as Why}
+use Rattle.rules.specs.declared.Refused.the-variants.{NoRoom}
+use Rattle.rules.specs.Answers.{refusing, records}
 use Rattle.rules.specs.Solve.{admitted, refusal, Behind, leaves}
 use Rattle.invariants.specs.Admit.{Admitted, refusal-says}
 use Rattle.promise.specs.Admitting.{admitted-is}
@@ -32,9 +35,9 @@ zeros-serve k small ws ss n h = record { asks = zeros-ask k small ws n (h .few) 
 
 -- 4
 module _ (b : Bool) (ws ss qs : List ℕ) (n : ℕ) where
-  pub left-outside : (o : Bool) → o ≡ outside ws ss n → o ≡ true → leaves (refusal b ws ss n) ws ss qs n ≡ record { table = ws; solutions = ss; queue = qs; said = reply 4 0 0 }
+  pub left-outside : (o : Bool) (r : Reply) → o ≡ outside ws ss n → o ≡ true → refusing NoRoom ≡ r → leaves (refusal b ws ss n) ws ss qs n ≡ record { table = ws; solutions = ss; queue = qs; said = r }
   unfolding leaves
-  left-outside o e t = rw (outside-refused ws ss n b (sym e ∙ t))
+  left-outside o r e t q = rw (outside-refused ws ss n b (sym e ∙ t), q)
 
 module _ (ws ss : List ℕ) (n : ℕ) (o : Bool) (e : o ≡ outside ws ss n) (f : o ≡ false) where
   pub inside-fits : Fits w32 n
@@ -51,9 +54,9 @@ pub record Settling (ws ss es : List ℕ) (n : ℕ) (x : Refusal) : Type 0 where
   pub admits : (R k : ℕ) → records ws ≡ R → x ≡ Admits-all k → Admits R n ws ss es k
 
 module _ (ws ss qs es : List ℕ) (n : ℕ) (x : Refusal) where
-  pub left-refused : (a p : ℕ) → x ≡ Refused a p → leaves (refusalOf x) ws ss qs n ≡ record { table = ws; solutions = ss; queue = qs; said = reply a p 0 }
+  pub left-refused : (why : Why) (r : Reply) → x ≡ Refused why → refusing why ≡ r → leaves (refusalOf x) ws ss qs n ≡ record { table = ws; solutions = ss; queue = qs; said = r }
   unfolding leaves
-  left-refused a p z = rw z
+  left-refused why r z q = rw (z, q)
 
   pub settling-admits : (R k : ℕ) → Settling ws ss es n x → records ws ≡ R → x ≡ Admits-all k → Admits R n ws ss es k
   settling-admits R k h r z = h .admits R k r z

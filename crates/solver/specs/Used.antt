@@ -9,10 +9,12 @@ use lib.Dec.{eqb, ltb}
 use borrow.Author.Tests.{ltb-false}
 use Rattle.rules.specs.declared.Found.{Found}
 use Rattle.rules.specs.declared.Found.the-variants.{At, Nowhere}
+use Rattle.rules.specs.declared.Refused.{Refused}
+use Rattle.rules.specs.declared.Refused.the-variants.{NoRoom, Broken, NoHole, IllTyped, NoPattern}
 use Rattle.rules.specs.declared.Reply.{Reply}
 use Rattle.rules.specs.Lists.{both, either, lowest}
 use Rattle.rules.specs.Words.{HO, has}
-use Rattle.rules.specs.Answers.{records, pairs}
+use Rattle.rules.specs.Answers.{refusing, records, pairs}
 use Rattle.rules.specs.Store.{Out, goes, fails, spent}
 use Rattle.rules.specs.Machine.{Pair, machine}
 use Rattle.rules.specs.Solve.{Refusal, admitted, refused, refusal, filled, start, Behind, leaves, solve}
@@ -27,11 +29,15 @@ use Rattle.invariants.specs.Machine.{machine-grows}
 use Rattle.invariants.specs.Answers.{show-says}
 use Rattle.solver.specs.Running.{machine-none}
 
+-- what is refused uses none
+refusing-none : (x : Refused) → refusing x .used ≡ 0
+refusing-none x = elim x [ NoRoom ↦ refl | Broken r ↦ refl | NoHole ↦ refl | IllTyped r ↦ refl | NoPattern r ↦ refl ]
+
 module _ (ws ss qs : List ℕ) (n : ℕ) where
   -- no more records are used than there are
   leaves-used : (b : Bool) (f : Refusal) → Says b ws ss n f → leaves f ws ss qs n .said .used ≤ 4096
   unfolding leaves start
-  leaves-used b (refused a p) h = omega arith
+  leaves-used b (refused x) h = let z = refusing-none x in omega arith
   leaves-used b admitted h = go n refl
     where
       ran : (o : Out (List Pair)) → machine (records ws) (pairs qs) n (start ws ss n) ≡ o → Grows Nobody Any (records ws) n (λ i. 0) (start ws ss n) o → leaves admitted ws ss qs n .said .used ≤ 4096

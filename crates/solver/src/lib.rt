@@ -6,8 +6,10 @@ use refuse::Asked;
 use refuse::Refusal;
 use refuse::out_of_room;
 use refuse::refuse;
+use refuse::refusing;
 use refuse::room_of;
 use rules::Failure;
+use rules::Refused;
 use rules::Reply;
 use show::answer;
 use store::Walked;
@@ -16,7 +18,7 @@ use table::NONE;
 ghost use mathlib.Core.Path.{_≡_};
 ghost use Prim.Native.Nat.{_*_, _≤_};
 ghost use lib.ListN.{length};
-ghost use Rattle.rules.specs.Answers.{pairs, number};
+ghost use Rattle.rules.specs.Answers.{too-few, pairs, number};
 ghost use Rattle.rules.specs.Solve.{admitted, refusal, leaves, solve as solveOf};
 ghost use Rattle.rules.specs.Show.{show as showOf};
 ghost use Rattle.machine.specs.Start.{Started};
@@ -161,11 +163,7 @@ fn settle(
     ensures { λ r. ⌜ leaves (refusalOf refusal) (now (table .entry)) (now (solutions .entry)) (now (queue .entry)) n ≡ record { table = now (table .exit); solutions = now (solutions .exit); queue = now (queue .exit); said = r } ⌝ }
 {
     match refusal {
-        Refusal::Refused { answer, place } => Reply {
-            answer,
-            place,
-            used: 0,
-        },
+        Refusal::Refused(refused) => refusing(refused),
         Refusal::Admitted { count } => {
             let room = room_of(table);
             run(table, solutions, queue, equations, count, n, room)
@@ -315,11 +313,7 @@ fn leave(
     ensures { λ r. ⌜ leaves (refusal (asks asked (now (table .entry)) n) (now (table .entry)) (now (solutions .entry)) n) (now (table .entry)) (now (solutions .entry)) (now (queue .entry)) n ≡ record { table = now (table .exit); solutions = now (solutions .exit); queue = now (queue .exit); said = r } ⌝ }
 {
     if out_of_room(table, solutions, n) {
-        return Reply {
-            answer: 4,
-            place: 0,
-            used: 0,
-        };
+        return refusing(Refused::NoRoom);
     }
     if n <= 64 {
         return leave_64(table, n as u32, solutions, queue, asked);
@@ -340,6 +334,17 @@ pub fn solve(table: &mut [u32], n: usize, solutions: &mut [u32], queue: &mut [u3
     leave(table, n, solutions, queue, Asked::Solving)
 }
 
+// The reply where show's output has too few records.
+fn too_few() -> Reply
+    ensures { λ r. ⌜ too-few ≡ r ⌝ }
+{
+    Reply {
+        answer: 11,
+        place: 0,
+        used: 0,
+    }
+}
+
 // The reply to what was written; too few output records leave all counted records zero.
 fn finish(output: &mut [u32], room: u32, walked: Walked) -> Reply
     requires { ⌜ 4 * room ≤ length (now output) ⌝ }
@@ -353,11 +358,7 @@ fn finish(output: &mut [u32], room: u32, walked: Walked) -> Reply
         },
         Walked::Failed(_) => {
             fill(output, 0, 4 * (room as usize), 0);
-            Reply {
-                answer: 11,
-                place: 0,
-                used: 0,
-            }
+            too_few()
         }
     }
 }

@@ -17,7 +17,7 @@ use Rattle.rules.specs.Pattern.{offence}
 use Rattle.laws.specs.Tests.{false-true, both-no}
 use Rattle.laws.specs.Lists.{size, size-real, elements-none}
 use Rattle.laws.specs.Places.{TypeAt, ListAt, placed-inside, domain-at, result-at, term-cell, type-cell}
-use Rattle.typing.specs.declared.Left.the-variants.{Said, Last}
+use Rattle.typing.specs.declared.Checked.the-variants.{Fails, ButLast}
 use Rattle.typing.specs.Stack.{binders}
 use Rattle.typing.specs.Offences.{among-terms}
 use Rattle.typing.specs.Asks.{named, applies, alone, filled, TermAsks, ArgsAsk, Told, Leaves}
@@ -120,21 +120,24 @@ applies-alone : (ws ctx : List ℕ) (ty l head : ℕ) → l ≡ NONE → applies
 unfolding applies alone
 applies-alone ws ctx ty l head n = rw (elements-none ws l n, each-none)
 
-pub no-arguments : (ws st : List ℕ) (low d l head ty : ℕ) (b : Bool) → ArgsAsk (TypeAt ws) ws st low d l head → l ≡ NONE → b ≡ alone ws ty head → Leaves ws st low d l head ty st low (Said b)
-unfolding Leaves
-no-arguments ws st low d l head ty b a n q =
-    ends _ (applies ws (binders st d) ty) _ _ _ _ _ _ _ _ _ _ (passed-none _ _ _ _ _ _ _ _ a) b n (q ∙ sym (applies-alone ws (binders st d) ty l head n))
+pub no-arguments : (ws st : List ℕ) (low d l head ty : ℕ) (b : Bool) → low ≤ NONE → l ≡ NONE → b ≡ alone ws ty head
+    → Told d (applies ws (binders st d) ty l head) (among-terms ws l) st low st low b
+no-arguments ws st low d l head ty b few n q =
+    let none = among-end ws l n in
+    record { says = q ∙ sym (applies-alone ws (binders st d) ty l head n); keeps = refl; lowest = λ t. omega arith }
 
 module _ (ws st₀ : List ℕ) (low₀ d l head ty : ℕ) (st : List ℕ) (low list rest : ℕ) (p : Passed (TypeAt ws) (applies ws (binders st₀ d) ty) ws st₀ low₀ d l head st low list rest) where
   pub head-inside : 4 * rest + 3 < length ws
   head-inside = placed-inside _ ws rest (p .held)
 
+  stops : (st₁ : List ℕ) (low₁ : ℕ) → binders st₁ d ≡ binders st d → applies ws (binders st₀ d) ty list rest ≡ false → Leaves ws st₀ low₀ d l head ty st₁ low₁ Fails
+  unfolding Leaves
+  stops st₁ low₁ k e = (p .same ∙ e, k ∙ p .keeps)
+
   module _ (z : list ≡ NONE → ⊥) (t : Record) (i : IsRecord ws rest t) where
-    pub too-many : (t .tag ≡ AR → ⊥) → Leaves ws st₀ low₀ d l head ty st low (Said false)
-    unfolding Leaves applies each
-    too-many n =
-        refuses _ (applies ws (binders st₀ d) ty) _ _ _ _ _ _ _ _ _ _ p st low refl
-        (rw (term-cell ws list (p .left) z .reads, domains-base ws rest (p .held) (λ q. n (i .tag-is ∙ q))) (both-no _))
+    pub too-many : (t .tag ≡ AR → ⊥) → Leaves ws st₀ low₀ d l head ty st low Fails
+    unfolding applies each
+    too-many n = stops st low refl (rw (term-cell ws list (p .left) z .reads, domains-base ws rest (p .held) (λ q. n (i .tag-is ∙ q))) (both-no _))
 
     module _ (k : t .tag ≡ AR) where
       pub domain-type : TypeAt ws (t .a)
@@ -154,7 +157,7 @@ module _ (ws st₀ : List ℕ) (low₀ d l head ty : ℕ) (st : List ℕ) (low l
           last-turn : applies ws (binders st₀ d) ty list rest ≡ both (checks enough ws (binders st₀ d) (cell .a) (t .a)) b
           last-turn = turn ∙ rw (applies-alone ws (binders st₀ d) ty (cell .b) (t .b) n, ← q)
 
-          pub last-remains : b ≡ true → Leaves ws st₀ low₀ d l head ty st low (Last (cell .a) (t .a))
+          pub last-remains : not b ≡ false → Leaves ws st₀ low₀ d l head ty st low (ButLast (cell .a) (t .a))
           unfolding Leaves
           last-remains y =
               let none = among-end ws (cell .b) n in
@@ -167,22 +170,17 @@ module _ (ws st₀ : List ℕ) (low₀ d l head ty : ℕ) (st : List ℕ) (low l
                 asks = asks;
                 lower = omega arith;
                 keeps = p .keeps;
-                same = p .same ∙ last-turn ∙ rw (y, both-yes, p .keeps);
+                same = p .same ∙ last-turn ∙ rw (not-false b y, both-yes, p .keeps);
                 lowest = omega arith;
               }
 
-          pub last-ends : b ≡ false → Leaves ws st₀ low₀ d l head ty st low (Said false)
-          unfolding Leaves
-          last-ends y =
-              refuses _ (applies ws (binders st₀ d) ty) _ _ _ _ _ _ _ _ _ _ p st low refl
-              (last-turn ∙ rw y (both-no _))
+          pub last-ends : not b ≡ true → Leaves ws st₀ low₀ d l head ty st low Fails
+          last-ends y = stops st low refl (last-turn ∙ rw (not-true b y) (both-no _))
 
         module _ (st₁ : List ℕ) (low₁ : ℕ) (b : Bool) (h : Told d (checks enough ws (binders st d) (cell .a) (t .a)) (offence enough ws (cell .a)) st low st₁ low₁ b) where
-          pub argument-fails : not b ≡ true → Leaves ws st₀ low₀ d l head ty st₁ low₁ (Said false)
-          unfolding Leaves both
-          argument-fails f =
-              refuses _ (applies ws (binders st₀ d) ty) _ _ _ _ _ _ _ _ _ _ p st₁ low₁ (h .keeps)
-              (turn ∙ rw (← p .keeps, ← h .says, not-true b f))
+          pub argument-fails : not b ≡ true → Leaves ws st₀ low₀ d l head ty st₁ low₁ Fails
+          unfolding both
+          argument-fails f = stops st₁ low₁ (h .keeps) (turn ∙ rw (← p .keeps, ← h .says, not-true b f))
 
           pub argument-checks : length st₁ ≡ length st → not b ≡ false → Passed (TypeAt ws) (applies ws (binders st₀ d) ty) ws st₀ low₀ d l head st₁ low₁ (cell .b) (t .b)
           unfolding both

@@ -1,14 +1,16 @@
 -- Final types, domains and the types of heads, as they are read.
-use Prim.Native.Nat.{ℕ, _+_, _<_, _≤_}
+use Prim.Native.Nat.{ℕ, _+_, _-_, _<_, _≤_}
 use mathlib.Core.Path.{_≡_, refl, sym, ap, _∙_}
 use mathlib.Core.List.{List, [], _∷_}
 use mathlib.Core.Bool.{Bool, true, false}
 use native.Mathlib.Omega.{arith}
 use native.Mathlib.Decide.{decLt}
 use borrow.Author.Tests.{eq-eqb, ne-eqb}
-use lib.ListN.{length, getD}
+use lib.ListN.{length, getD, take}
+use lib.Seq.{take-all}
 use lib.Dec.{eqb}
 use Rattle.table.specs.declared.Record.{Record}
+use Rattle.table.specs.Reading.{IsRecord}
 use Rattle.rules.specs.declared.Found.{Found}
 use Rattle.rules.specs.declared.Found.the-variants.{At, Nowhere}
 use Rattle.rules.specs.Lists.{both, enough}
@@ -16,10 +18,17 @@ use Rattle.rules.specs.Words.{AR, VA, tag, fieldA, fieldB, has}
 use Rattle.rules.specs.Typing.{finalType, domains}
 use Rattle.laws.specs.Tests.{both-no}
 use Rattle.laws.specs.Unrolled.{final-unrolled, domains-unrolled}
-use Rattle.laws.specs.Places.{TypeAt, result-low}
+use Rattle.laws.specs.Places.{TypeAt, placed-few, result-at, result-low}
 use Rattle.typing.specs.declared.Final.{Final}
 use Rattle.typing.specs.Stack.{typeOf, type-bound, type-free}
 use Rattle.typing.specs.Asks.{alone, headType, IsFinal}
+
+-- the table as it is lent on: the part that starts at its first word
+abbrev whole : List ℕ → List ℕ
+whole ws = take (length ws - 0) ws
+
+all : (ws : List ℕ) → whole ws ≡ ws
+all ws = take-all (length ws - 0) ws (omega arith)
 
 module _ (ws : List ℕ) (ty : ℕ) (p : TypeAt ws ty) where
   pub final-arrow : tag ws ty ≡ AR → finalType enough ws ty ≡ finalType enough ws (fieldB ws ty)
@@ -34,24 +43,39 @@ module _ (ws : List ℕ) (ty : ℕ) (p : TypeAt ws ty) where
   unfolding has
   domains-base z = domains-unrolled ws (p .top) (p .legal) ty (p .low) ∙ rw (ne-eqb _ _ z)
 
-  pub final-here : (tag ws ty ≡ AR → ⊥) → IsFinal ws ty (record { base = ty; count = 0 })
-  unfolding has
-  final-here z = record {
-    base-is = sym (final-unrolled ws (p .top) (p .legal) ty (p .low) ∙ rw (ne-eqb _ _ z));
-    count-is = rw (domains-base z);
-    few = omega arith;
-  }
+  module _ (x : Record) (j : IsRecord ws ty x) where
+    pub final-here : (x .tag ≡ AR → ⊥) → IsFinal ws ty (record { base = ty; count = 0 })
+    unfolding has
+    final-here z = let n : tag ws ty ≡ AR → ⊥ = λ e. z (j .tag-is ∙ e) in record {
+      base-is = sym (final-unrolled ws (p .top) (p .legal) ty (p .low) ∙ rw (ne-eqb _ _ n));
+      count-is = rw (domains-base n);
+      few = omega arith;
+    }
 
-  pub final-more : (b : ℕ) (f : Final) → tag ws ty ≡ AR → b ≡ fieldB ws ty → IsFinal ws b f → IsFinal ws ty (record { base = f .base; count = f .count + 1 })
-  final-more b f e eb i =
-      let lo = result-low ws ty p e in
-      let few = i .few in
-      let n = i .count-is in
-      record {
-        base-is = i .base-is ∙ ap (finalType enough ws) eb ∙ sym (final-arrow e);
-        count-is = rw (domains-arrow e, ← eb) (omega arith);
-        few = omega arith;
-      }
+    module _ (e : x .tag ≡ AR) where
+      arrow : tag ws ty ≡ AR
+      arrow = sym (j .tag-is) ∙ e
+
+      pub result-less : x .b < ty
+      result-less = rw (j .b-is) (result-low ws ty p arrow)
+
+      pub result-type : TypeAt (whole ws) (x .b)
+      result-type = rw (all ws, j .b-is) (result-at ws ty p arrow)
+
+      module _ (f : Final) (i : IsFinal (whole ws) (x .b) f) where
+        pub final-room : f .count < 4096
+        final-room = let few = i .few in let lo = result-less in let top = placed-few _ ws ty p in omega arith
+
+        pub final-more : IsFinal ws ty (record { base = f .base; count = f .count + 1 })
+        final-more =
+            let lo = result-less in
+            let few = i .few in
+            let n = rw (all ws) at (i .count-is) in
+            record {
+              base-is = i .base-is ∙ rw (all ws, j .b-is, final-arrow arrow);
+              count-is = rw (domains-arrow arrow, ← j .b-is) (omega arith);
+              few = omega arith;
+            }
 
 pub both-yes : (a : Bool) → both a true ≡ a
 unfolding both

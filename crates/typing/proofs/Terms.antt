@@ -12,7 +12,7 @@ use Rattle.table.specs.Reading.{IsRecord}
 use Rattle.rules.specs.declared.Found.{Found}
 use Rattle.rules.specs.declared.Found.the-variants.{At, Nowhere}
 use Rattle.rules.specs.Lists.{both, enough}
-use Rattle.rules.specs.Words.{LA, CA, VA, HA, tag, fieldA, fieldB, has, isType, isTerm, arguments}
+use Rattle.rules.specs.Words.{NONE, LA, CA, VA, HA, tag, fieldA, fieldB, has, isType, isTerm, arguments}
 use Rattle.rules.specs.Typing.{applied, checkTerm, checks}
 use Rattle.rules.specs.Pattern.{offence}
 use Rattle.laws.specs.Tests.{false-true}
@@ -22,12 +22,13 @@ use Rattle.laws.specs.Forms.{is-lambda, is-constant, is-variable, is-hole, term
 use Rattle.laws.specs.Unrolled.{checks-unrolled}
 use Rattle.laws.specs.Places.{TypeAt, ListAt, placed-inside, domain-at, result-at, body-at, arguments-at, constant-at, constant-inside, hole-at, context-at}
 use Rattle.patterns.specs.Occurrences.{occurrence}
-use Rattle.typing.specs.declared.Left.{Left}
-use Rattle.typing.specs.declared.Left.the-variants.{Said, Last}
+use Rattle.typing.specs.declared.Checked.{Checked}
+use Rattle.typing.specs.declared.Checked.the-variants.{Fails, ButLast}
 use Rattle.typing.specs.Stack.{binders, typeOf, binders-pop}
 use Rattle.typing.specs.Offences.{among-terms}
-use Rattle.typing.specs.Asks.{applies, headType, filled, Bound, Binds, TermAsks, ArgsAsk, Told, Remains, Leaves}
+use Rattle.typing.specs.Asks.{applies, alone, headType, filled, Bound, Binds, TermAsks, ArgsAsk, Told, Remains, Leaves}
 use Rattle.typing.proofs.Heads.{head-variable, head-constant, type-found, type-missing}
+use Rattle.typing.proofs.Arguments.{no-arguments}
 use Rattle.typing.proofs.Occurrences.{lambda-offence, constant-offence, variable-offence, hole-offence}
 
 -- the term in hand: its check is the check asked, the first d₀ binders stay where the first d do, and the lowest offending occurrence of the
@@ -43,7 +44,7 @@ pub record InHand (ws st₀ : List ℕ) (low₀ d₀ r ty : ℕ) (st : List ℕ)
 pub hand-first : (ws st : List ℕ) (low d r ty : ℕ) → TermAsks ws st low d r ty → InHand ws st low d r ty st low d ty r
 hand-first ws st low d r ty a = record { asks = a; same-length = refl; lower = omega arith; keeps = λ e q. q; same = refl; lowest = refl }
 
-module _ (ws st₀ : List ℕ) (low₀ d₀ r ty : ℕ) (st : List ℕ) (low d at term : ℕ) (p : InHand ws st₀ low₀ d₀ r ty st low d at term) where
+module _ {ws st₀ : List ℕ} {low₀ d₀ r ty : ℕ} {st : List ℕ} {low d at term : ℕ} (p : InHand ws st₀ low₀ d₀ r ty st low d at term) where
   -- what the check of the whole answers
   abbrev Tells : List ℕ → ℕ → Bool → Type 0
   Tells st₁ low₁ b = Told d₀ (checks enough ws (binders st₀ d₀) r ty) (offence enough ws r) st₀ low₀ st₁ low₁ b
@@ -81,7 +82,7 @@ module _ (ws st₀ : List ℕ) (low₀ d₀ r ty : ℕ) (st : List ℕ) (low d a
   pub hole-less : (k : ℕ) → 2 * r + 2 ≡ k → 2 * term + 1 < k
   hole-less k h = let low = p .lower in omega arith
 
-  module _ (x : Record) (j : IsRecord ws term x) where
+  module _ {x : Record} (j : IsRecord ws term x) where
     pub tagged : (k : ℕ) → x .tag ≡ k → tag ws term ≡ k
     tagged k e = sym (j .tag-is) ∙ e
 
@@ -194,7 +195,7 @@ module _ (ws st₀ : List ℕ) (low₀ d₀ r ty : ℕ) (st : List ℕ) (low d a
       rigid-offence : offence enough ws term ≡ among-terms ws (x .b)
       rigid-offence = rw (j .b-is) (elim rigid [ inl e ↦ variable-offence ws term (p .asks .term) e | inr e ↦ constant-offence ws term (p .asks .term) e ])
 
-      module _ (f : Found) (q : f ≡ headType ws (binders st d) x) where
+      module _ {f : Found} (q : f ≡ headType ws (binders st d) x) where
         pub head-free : f ≡ Nowhere → Tells st low false
         unfolding both
         head-free n = go rigid
@@ -203,7 +204,7 @@ module _ (ws st₀ : List ℕ) (low₀ d₀ r ty : ℕ) (st : List ℕ) (low d a
             go (inl e) = refuses (check-variable (checks enough ws) ws (binders st d) term at e ∙ rw (← j .a-is, le-ltb _ _ (type-missing (binders st d) (x .a) (variable-type e ∙ sym q ∙ n))))
             go (inr e) = let w : _≡_ {A = ℕ} 0 1 = cc (constant-type e) in absurd (omega arith)
 
-        module _ (h : ℕ) (n : f ≡ At h) where
+        module _ {h : ℕ} (n : f ≡ At h) where
           rigid-check : (TypeAt ws h) × (here ≡ applies ws (binders st d) at (x .b) h)
           unfolding applied applies arguments both
           rigid-check = go rigid
@@ -223,12 +224,20 @@ module _ (ws st₀ : List ℕ) (low₀ d₀ r ty : ℕ) (st : List ℕ) (low d a
           pub head-asks : ArgsAsk (TypeAt ws) ws st low d (x .b) h
           head-asks = arguments-ask z (TypeAt ws) h low (rigid-check .0) (omega arith)
 
-          module _ (st₁ : List ℕ) (low₁ : ℕ) (o : Left) (v : Leaves ws st low d (x .b) h at st₁ low₁ o) where
-            pub head-told : (b : Bool) → o ≡ Said b → Tells st₁ low₁ b
-            unfolding Leaves
-            head-told b e = answers _ b _ low₁ st₁ (rigid-check .1) rigid-offence (rw e at v)
+          pub head-type : TypeAt ws h
+          head-type = rigid-check .0
 
-            module _ (t u : ℕ) (e : o ≡ Last t u) where
+          pub head-alone : (b : Bool) → x .b ≡ NONE → b ≡ alone ws at h → Tells st low b
+          head-alone b e s = answers _ b _ low st (rigid-check .1) rigid-offence (no-arguments ws st low d (x .b) h at b (p .asks .few) e s)
+
+          module _ (st₁ : List ℕ) (low₁ : ℕ) (o : Checked) (v : Leaves ws st low d (x .b) h at st₁ low₁ o) where
+            pub head-fails : o ≡ Fails → Tells st₁ low₁ false
+            unfolding Leaves
+            head-fails e =
+                let w : Leaves ws st low d (x .b) h at st₁ low₁ Fails = rw e at v in
+                record { says = sym (one ∙ rigid-check .1 ∙ w .0); keeps = p .keeps st₁ (w .1); lowest = λ t. absurd (false-true t) }
+
+            module _ {t u : ℕ} (e : o ≡ ButLast t u) where
               left : Remains ws st low d (x .b) h at st₁ low₁ t u
               unfolding Leaves
               left = rw e at v

@@ -16,8 +16,8 @@ use Rattle.laws.specs.Lists.{size}
 use Rattle.laws.specs.Members.{Legal, Every}
 use Rattle.laws.specs.Places.{TypeAt, TermAt, ListAt}
 use Rattle.typing.specs.declared.Final.{Final}
-use Rattle.typing.specs.declared.Left.{Left}
-use Rattle.typing.specs.declared.Left.the-variants.{Said, Last}
+use Rattle.typing.specs.declared.Checked.{Checked}
+use Rattle.typing.specs.declared.Checked.the-variants.{Fails, ButLast}
 use Rattle.typing.specs.Stack.{binders, typeOf}
 use Rattle.typing.specs.Offences.{sides, among-terms}
 
@@ -105,14 +105,14 @@ pub record Offends (ws : List ℕ) (e low low₁ : ℕ) (b : Bool) : Type 0 wher
 
 -- of list l, after a head of this type, the last argument alone is left to check, at type t; its number is lower than the list's, the first d
 -- binders stay, and the lowest offending occurrence so far counts those within the other arguments
-pub record Remains (ws st : List ℕ) (low d l head ty : ℕ) (st₁ : List ℕ) (low₁ term t : ℕ) : Type 0 where
-  pub asks : TermAsks ws st₁ low₁ d term t
-  pub lower : term + 1 < size l
+pub record Remains (ws st : List ℕ) (low d l head ty : ℕ) (st₁ : List ℕ) (low₁ last t : ℕ) : Type 0 where
+  pub asks : TermAsks ws st₁ low₁ d last t
+  pub lower : last + 1 < size l
   pub keeps : binders st₁ d ≡ binders st d
-  pub same : applies ws (binders st d) ty l head ≡ checks enough ws (binders st₁ d) term t
-  pub lowest : min low (among-terms ws l) ≡ min low₁ (offence enough ws term)
+  pub same : applies ws (binders st d) ty l head ≡ checks enough ws (binders st₁ d) last t
+  pub lowest : min low (among-terms ws l) ≡ min low₁ (offence enough ws last)
 
--- what a check of list l after a head of this type leaves: an answer, or the last argument
-unfoldable pub Leaves : List ℕ → List ℕ → ℕ → ℕ → ℕ → ℕ → ℕ → List ℕ → ℕ → Left → Type 0
-Leaves ws st low d l head ty st₁ low₁ (Said b) = Told d (applies ws (binders st d) ty l head) (among-terms ws l) st low st₁ low₁ b
-Leaves ws st low d l head ty st₁ low₁ (Last term t) = Remains ws st low d l head ty st₁ low₁ term t
+-- what a check of list l after a head of this type leaves: it does not apply, or the last argument decides
+unfoldable pub Leaves : List ℕ → List ℕ → ℕ → ℕ → ℕ → ℕ → ℕ → List ℕ → ℕ → Checked → Type 0
+Leaves ws st low d l head ty st₁ low₁ Fails = (applies ws (binders st d) ty l head ≡ false) × (binders st₁ d ≡ binders st d)
+Leaves ws st low d l head ty st₁ low₁ (ButLast last t) = Remains ws st low d l head ty st₁ low₁ last t

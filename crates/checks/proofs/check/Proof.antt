@@ -9,6 +9,7 @@ check-spec =
     tie.close
     (tie.spec
     (λ c κs. search needs)
+    (λ c κs. search needs)
     (λ c. search outside-checked)
     (λ c. search inside-fits)
     (λ c κs. inside-table _ _ _ (c .before .out-of-room .ensures) (c .if1 .left))

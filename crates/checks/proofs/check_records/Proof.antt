@@ -15,4 +15,5 @@ check-records-spec =
     (λ c. search needs)
     (λ c. search needs)
     (λ c κs. search (zeros-ask 4096 (omega arith)))
+    (λ c κs. search needs)
     (λ c. search solving-sound))

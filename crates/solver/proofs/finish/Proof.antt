@@ -10,4 +10,12 @@ use Rattle.fill.proofs.fill.Reads as fill-reads
 pub finish-spec : {M : Type 1} → statement M
 finish-spec =
     tie.close
-    (tie.spec (λ c. search needs) (λ c. search needs) (λ c. search needs) (λ c κs. search needs) (λ c. search (finishes-root, finishes-failed)) (λ c. search needs) (λ c. search (finishes-root, finishes-failed)))
+    (tie.spec
+    (λ c. search needs)
+    (λ c. search needs)
+    (λ c. search needs)
+    (λ c κs. search needs)
+    (λ c κs. search needs)
+    (λ c. search finishes-root)
+    (λ c. search needs)
+    (λ c. search finishes-failed))

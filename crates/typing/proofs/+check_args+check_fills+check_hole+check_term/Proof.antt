@@ -8,8 +8,8 @@ use Rattle.laws.specs.Lists.{size}
 use Rattle.laws.specs.Places.{TypeAt, ListAt}
 use Rattle.typing.specs.Stack.{binders}
 use Rattle.typing.specs.Asks.{applies, filled}
-use Rattle.typing.proofs.Arguments.{Passed, passed-none, cell-inside, element-inside, rest-less, element-less, element-asks, no-arguments, head-inside as type-of-head-inside, too-many, domain-type, result-type, last-remains, last-ends, argument-fails, argument-checks, context-ends, context-short, context-inside, context-type, bare-fills, filling-fails, filling-checks}
-use Rattle.typing.proofs.Terms.{InHand, hand-first, answered, term-inside, room-left, hole-less, tagged, body-less, no-arrow, body-next, arguments-less, hole-inside, hole-list, fills-less, other-type, hole-asks, hole-told, head-inside, head-free, head-asks, head-told, last-less, last-next}
+use Rattle.typing.proofs.Arguments.{Passed, passed-none, cell-inside, element-inside, rest-less, element-less, element-asks, head-inside as type-of-head-inside, too-many, domain-type, result-type, last-remains, last-ends, argument-fails, argument-checks, context-ends, context-short, context-inside, context-type, bare-fills, filling-fails, filling-checks}
+use Rattle.typing.proofs.Terms.{InHand, hand-first, answered, term-inside, room-left, hole-less, tagged, body-less, no-arrow, body-next, arguments-less, hole-inside, hole-list, fills-less, other-type, hole-asks, hole-told, head-inside, head-free, head-asks, head-type, head-alone, head-fails, last-less, last-next}
 use borrow.Fn.Kinds.{In}
 use borrow.Fn.PlainCycle.{Measures, is, falls, and}
 use Rattle.typing.proofs.check_args.Reads as check-args
@@ -79,7 +79,7 @@ check-term-below t =
 
 abbrev check-args-calls : ℕ → check-args-lts.Claims
 check-args-calls t =
-    (ends-reads.Asked, ends-reads.Learnt, read-reads.Asked, read-reads.Learnt, check-term-below t, check-term.Post)
+    (read-reads.Asked, read-reads.Learnt, ends-reads.Asked, ends-reads.Learnt, check-term-below t, check-term.Post)
 
 abbrev check-fills-calls : ℕ → check-fills-lts.Claims
 check-fills-calls t =
@@ -91,7 +91,7 @@ check-hole-calls t =
 
 abbrev check-term-calls : ℕ → check-term-lts.Claims
 check-term-calls t =
-    (read-reads.Asked, read-reads.Learnt, bind-reads.Asked, bind-reads.Learnt, check-hole-below t, check-hole.Post, head-type-reads.Asked, head-type-reads.Learnt, check-args-below t, check-args.Post)
+    (read-reads.Asked, read-reads.Learnt, bind-reads.Asked, bind-reads.Learnt, check-hole-below t, check-hole.Post, head-type-reads.Asked, head-type-reads.Learnt, ends-reads.Asked, ends-reads.Learnt, check-args-below t, check-args.Post)
 
 abbrev check-args-Inv-loop : check-args-lts.InvT-loop
 check-args-Inv-loop table stack₀ low₀ depth l head ty list₀ rest₀ stack low list rest = (Passed (TypeAt table) (applies table (binders stack₀ depth) ty) table stack₀ low₀ depth l head stack low list rest) × (list ≡ NONE → ⊥)
@@ -118,8 +118,6 @@ pub +check-args+check-fills+check-hole+check-term-spec : {M : Type 1} → statem
     check-args.Post
     check-args-Inv-loop
     check-args-μ-loop
-    (λ c κs. search needs)
-    (λ c. search no-arguments)
     (λ c. (search passed-none, search needs))
     (λ c κs. search type-of-head-inside)
     (λ c. search needs)
@@ -127,9 +125,9 @@ pub +check-args+check-fills+check-hole+check-term-spec : {M : Type 1} → statem
     (λ c κs. search cell-inside)
     (λ c κs. search result-type)
     (λ c. search needs)
-    (λ c. search last-remains)
-    (λ c. search needs)
     (λ c. search last-ends)
+    (λ c. search needs)
+    (λ c. search last-remains)
     (λ c κs. (search element-less, search (element-asks, domain-type)))
     (λ c. search needs)
     (λ c. search argument-fails)
@@ -188,10 +186,13 @@ pub +check-args+check-fills+check-hole+check-term-spec : {M : Type 1} → statem
     (λ c. search needs)
     (λ c. search needs)
     (λ c. search head-free)
-    (λ c κs. (search arguments-less, search head-asks))
+    (λ c κs. head-type (c .before .before .before .before .before .before .before .before .before .before .before .before .loop .inv) (c .before .before .before .before .before .before .before .before .before .before .before .read .ensures) (c .before .before .before .before .before .before .before .before .before .if1 .left) (c .before .before .before .before .before .before .before .if2 .left) (c .before .before .before .before .before .head-type .ensures) (search needs))
+    (λ c. search needs)
+    (λ c. head-alone (c .before .before .before .before .before .before .before .before .before .before .before .before .before .loop .inv) (c .before .before .before .before .before .before .before .before .before .before .before .before .read .ensures) (c .before .before .before .before .before .before .before .before .before .before .if1 .left) (c .before .before .before .before .before .before .before .before .if2 .left) (c .before .before .before .before .before .before .head-type .ensures) (search needs) _ (c .before .if3 .taken) (c .ends .ensures))
+    (λ c κs. (search arguments-less, (head-asks (c .before .before .before .before .before .before .before .before .before .before .before .before .before .before .loop .inv) (c .before .before .before .before .before .before .before .before .before .before .before .before .before .read .ensures) (c .before .before .before .before .before .before .before .before .before .before .before .if1 .left) (c .before .before .before .before .before .before .before .before .before .if2 .left) (c .before .before .before .before .before .before .before .head-type .ensures) (search needs), search needs)))
     (λ c. search needs)
     (λ c. search needs)
-    (λ c. search head-told)
     (λ c. search needs)
-    (λ c. search last-less)
-    (λ c. search last-next)
+    (λ c. head-fails (c .before .before .before .before .before .before .before .before .before .before .before .before .before .before .before .before .before .before .before .loop .inv) (c .before .before .before .before .before .before .before .before .before .before .before .before .before .before .before .before .before .before .read .ensures) (c .before .before .before .before .before .before .before .before .before .before .before .before .before .before .before .before .if1 .left) (c .before .before .before .before .before .before .before .before .before .before .before .before .before .before .if2 .left) (c .before .before .before .before .before .before .before .before .before .before .before .before .head-type .ensures) (search needs) _ _ _ (c .before .before .before .before .check-args .ensures) (search needs))
+    (λ c. last-less (c .before .before .before .before .before .before .before .before .before .before .before .before .before .before .before .before .before .before .before .before .loop .inv) (c .before .before .before .before .before .before .before .before .before .before .before .before .before .before .before .before .before .before .before .read .ensures) (c .before .before .before .before .before .before .before .before .before .before .before .before .before .before .before .before .before .if1 .left) (c .before .before .before .before .before .before .before .before .before .before .before .before .before .before .before .if2 .left) (c .before .before .before .before .before .before .before .before .before .before .before .before .before .head-type .ensures) (search needs) _ _ _ (c .before .before .before .before .before .check-args .ensures) {u = c .before .last .given .0 .1 .0} (search needs))
+    (λ c. last-next (c .before .before .before .before .before .before .before .before .before .before .before .before .before .before .before .before .before .before .before .before .loop .inv) (c .before .before .before .before .before .before .before .before .before .before .before .before .before .before .before .before .before .before .before .read .ensures) (c .before .before .before .before .before .before .before .before .before .before .before .before .before .before .before .before .before .if1 .left) (c .before .before .before .before .before .before .before .before .before .before .before .before .before .before .before .if2 .left) (c .before .before .before .before .before .before .before .before .before .before .before .before .before .head-type .ensures) (search needs) _ _ _ (c .before .before .before .before .before .check-args .ensures) (search needs) (search needs))
