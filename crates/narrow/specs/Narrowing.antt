@@ -26,7 +26,7 @@ use Rattle.narrow.specs.Context.{contexts, Choosing}
 
 -- what narrowing answers, as an answer whose record is the new hole
 abbrev pub rooted : Narrowed → Walked
-rooted (To h u) = Root (h .0) u
+rooted (To u h) = Root (h .0) u
 rooted (Fell e) = Failed e
 
 -- what follows the new hole: its occurrence at the kept positions is the old hole's solution
@@ -63,7 +63,7 @@ module _ (R n : ℕ) (vs : List ℕ) (ws : List ℕ) (w : Narrowed) where
   unfolding _>>=_
   occurring-stops e q = record { run = λ ss. rw q; grown = since-failed _ _ }
 
-  pub occurring-goes : (h : Hole) (u : ℕ) (ws₁ : List ℕ) (x : Walked) → w ≡ To h u → Does n (pushOccurrence R (h .0) vs) ws u ws₁ x
+  pub occurring-goes : (h : Hole) (u : ℕ) (ws₁ : List ℕ) (x : Walked) → w ≡ To u h → Does n (pushOccurrence R (h .0) vs) ws u ws₁ x
       → Then n (occurring R vs) ws (rooted w) ws₁ x
   unfolding _>>=_
   occurring-goes h u ws₁ x e p = record { run = λ ss. rw e (p .run ss); grown = p .grown }
@@ -94,7 +94,7 @@ pub record Occurring (ws : List ℕ) (n R : ℕ) (m : Map) (x : Walked) : Type 0
   pub whole : Whole m
   pub since : Since n x
 
-pub occurring-writes : (ws : List ℕ) (n R : ℕ) (m : Map) (x : Narrowed) (h : Hole) (u : ℕ) → Occurring ws n R m (rooted x) → x ≡ To h u → Writing ws n u R m
+pub occurring-writes : (ws : List ℕ) (n R : ℕ) (m : Map) (x : Narrowed) (h : Hole) (u : ℕ) → Occurring ws n R m (rooted x) → x ≡ To u h → Writing ws n u R m
 occurring-writes ws n R m x h u p e = record { room = p .room; since = p .since .since (h .0) u (rw e); whole = p .whole }
 
 -- what narrowing asks

@@ -27,9 +27,10 @@ ghost use Rattle.narrow.specs.Writing.{Writing, variableOf};
 ghost use Rattle.narrow.specs.Context.{Choosing, contexts};
 ghost use Rattle.narrow.specs.Narrowing.{rooted, settling, Settling, occurring, Occurring, Narrowing};
 
-// What narrowing answers: the new hole and the records used, or the failure.
+// What narrowing answers: the records used and the new hole, or the failure. In this order, since with the hole first `walk_hole` is compiled
+// 30 bytes longer, which moves the code after it, and "equal rigid trees" large took 6 % longer.
 pub enum Narrowed {
-    To { hole: Hole, used: u32 },
+    To { used: u32, hole: Hole },
     Failed(Failure),
 }
 
@@ -177,8 +178,8 @@ fn then_settle(
                 let h = hole.0 as usize;
                 solutions[h] = t;
                 Narrowed::To {
-                    hole: Hole(new),
                     used: last,
+                    hole: Hole(new),
                 }
             }
         },
@@ -211,7 +212,7 @@ fn then_occurrence(table: &mut [u32], n: u32, room: u32, kept: Map, narrowed: Na
 {
     match narrowed {
         Narrowed::Failed(e) => Walked::Failed(e),
-        Narrowed::To { hole, used } => push_occurrence(table, n, used, room, hole, kept, false),
+        Narrowed::To { used, hole } => push_occurrence(table, n, used, room, hole, kept, false),
     }
 }
 

@@ -83,5 +83,5 @@ finish-goes g w t u h = record { said = λ ws ss q cap. rw h; quiet = quiet-done
 pub narrowed-stops : (g : Ring) (w : Narrowed) (e : Failure) → w ≡ Lost e → ThenFinishes g (rooted w) (Fell e)
 narrowed-stops g w e h = finish-stops g (rooted w) e (rw h)
 
-pub narrowed-goes : (g : Ring) (w : Narrowed) (n : Hole) (u : ℕ) → w ≡ To n u → ThenFinishes g (rooted w) (Done g u)
+pub narrowed-goes : (g : Ring) (w : Narrowed) (n : Hole) (u : ℕ) → w ≡ To u n → ThenFinishes g (rooted w) (Done g u)
 narrowed-goes g w n u h = finish-goes g (rooted w) (n .0) u (rw h)

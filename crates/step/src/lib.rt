@@ -135,7 +135,7 @@ fn narrowing_done(ring: Ring, new: Narrowed) -> Step
 {
     match new {
         Narrowed::Failed(e) => Step::Failed(e),
-        Narrowed::To { hole: _, used } => Step::Done { ring, used },
+        Narrowed::To { used, hole: _ } => Step::Done { ring, used },
     }
 }
 
