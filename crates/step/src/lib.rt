@@ -35,7 +35,7 @@ pub enum Step {
 }
 
 // What two heads that are no solved holes ask for: steps 2, 3, 4, 5 for a side that a hole heads, or a clash.
-pub enum Meeting {
+enum Meeting {
     Bodies { left: u32, right: u32 },
     Arguments { left: u32, right: u32 },
     SameHole,
