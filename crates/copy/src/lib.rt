@@ -69,7 +69,8 @@ fn copy_body(
     }
     let mut head = rec.a;
     if rec.tag == VA {
-        head = renamed(map, depth, Variable(rec.a));
+        let v = renamed(map, depth, Variable(rec.a));
+        head = v.0;
     }
     if rec.b == NONE {
         return push(table, n, used, room, rec.tag, head, NONE);

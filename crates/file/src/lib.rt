@@ -21,7 +21,7 @@ fn wide(x: u8) -> u32
 }
 
 // The tag of a mark of two bytes, if it is known; each number below is two letters of the table of marks.
-pub fn tag_of_mark(x: u8, y: u8) -> Found
+fn tag_of_mark(x: u8, y: u8) -> Found
     ensures { λ r. ⌜ tagOf x y ≡ r ⌝ }
 {
     let mark = 256 * wide(x) + wide(y);
@@ -41,7 +41,7 @@ pub fn tag_of_mark(x: u8, y: u8) -> Found
 }
 
 // Four bytes from byte i on, little-endian.
-pub fn word_at(file: &[u8], i: usize) -> u32
+fn word_at(file: &[u8], i: usize) -> u32
     requires { ⌜ i + 3 < length (now file) ⌝ }
     ensures { λ r. ⌜ word (now (file .entry)) i ≡ r ⌝ }
 {
@@ -50,7 +50,7 @@ pub fn word_at(file: &[u8], i: usize) -> u32
 }
 
 // The tag of file record r, if its mark is known.
-pub fn tag_at(file: &[u8], r: u32) -> Found
+fn tag_at(file: &[u8], r: u32) -> Found
     requires { ⌜ 14 * r + 1 < length (now file) ⌝ }
     ensures { λ x. ⌜ marked (now (file .entry)) r ≡ x ⌝ }
 {
@@ -69,7 +69,7 @@ fn tag_word(found: Found) -> u32
 }
 
 // The lowest of the first n file records whose mark is unknown.
-pub fn lowest_unknown(file: &[u8], n: u32) -> Found
+fn lowest_unknown(file: &[u8], n: u32) -> Found
     requires { ⌜ 14 * n ≤ length (now file) ⌝ }
     ensures { λ x. ⌜ lowest n (λ r. not (isKnown (marked (now (file .entry)) r))) ≡ x ⌝ }
 {
@@ -86,7 +86,7 @@ pub fn lowest_unknown(file: &[u8], n: u32) -> Found
 }
 
 // File record r becomes record r of the table.
-pub fn write_record(file: &[u8], table: &mut [u32], r: u32)
+fn write_record(file: &[u8], table: &mut [u32], r: u32)
     requires { ⌜ Fitting (now file) (now table) (r + 1) ⌝ }
     ensures { λ _. ⌜ stored (now (file .entry)) r (now (table .entry)) ≡ now (table .exit) ⌝ }
 {
@@ -99,7 +99,7 @@ pub fn write_record(file: &[u8], table: &mut [u32], r: u32)
 }
 
 // The first n file records become the first n records of the table.
-pub fn write_records(file: &[u8], table: &mut [u32], n: u32)
+fn write_records(file: &[u8], table: &mut [u32], n: u32)
     requires { ⌜ Fitting (now file) (now table) n ⌝ }
     ensures { λ _. ⌜ now (table .exit) ≡ fileWords (now (file .entry)) 0 n ++ drop (4 * n) (now (table .entry)) ⌝ }
 {

@@ -9,7 +9,10 @@ use lib.Dec.{eqb}
 use Rattle.rules.specs.declared.Failure.{Failure}
 use Rattle.store.specs.declared.Walked.{Walked}
 use Rattle.store.specs.declared.Walked.the-variants.{Root, Failed}
+use Rattle.table.specs.declared.Hole.{Hole}
 use Rattle.table.specs.declared.Record.{Record}
+use Rattle.narrow.specs.declared.Narrowed.{Narrowed}
+use Rattle.narrow.specs.declared.Narrowed.the-variants.{To, Failed as Fell}
 use Rattle.places.specs.declared.Map.{Map}
 use Rattle.table.specs.Reading.{IsRecord}
 use Rattle.rules.specs.Words.{fieldA, fieldB, elements}
@@ -20,6 +23,11 @@ use Rattle.store.specs.Said.{store, shown, Since, since-root, since-failed, Doe
 use Rattle.places.specs.Maps.{mapOf, Whole, side}
 use Rattle.narrow.specs.Writing.{Writing}
 use Rattle.narrow.specs.Context.{contexts, Choosing}
+
+-- what narrowing answers, as an answer whose record is the new hole
+abbrev pub rooted : Narrowed → Walked
+rooted (To u h) = Root (h .0) u
+rooted (Fell e) = Failed e
 
 -- what follows the new hole: its occurrence at the kept positions is the old hole's solution
 abbrev pub settling : ℕ → ℕ → List ℕ → Store × ℕ → Out ℕ
@@ -46,14 +54,19 @@ narrow-goes R n h m ws ss u w ws₁ x₁ ws₂ x₂ ws₃ ss₃ x₃ e p q r =
       grown = r .grown;
     }
 
--- an occurrence of the hole that came out
+-- an occurrence of the hole that came out, or the failure
 abbrev pub occurring : ℕ → List ℕ → Store × ℕ → Out ℕ
 occurring R vs = λ (s, new). pushOccurrence R new vs s
 
-pub occurring-goes : (R n : ℕ) (vs : List ℕ) (ws : List ℕ) (w : Walked) (h u : ℕ) (ws₁ : List ℕ) (x : Walked)
-    → w ≡ Root h u → Does n (pushOccurrence R h vs) ws u ws₁ x → Then n (occurring R vs) ws w ws₁ x
-unfolding _>>=_
-occurring-goes R n vs ws w h u ws₁ x e p = record { run = λ ss. rw e (p .run ss); grown = p .grown }
+module _ (R n : ℕ) (vs : List ℕ) (ws : List ℕ) (w : Narrowed) where
+  pub occurring-stops : (e : Failure) → w ≡ Fell e → Then n (occurring R vs) ws (rooted w) ws (Failed e)
+  unfolding _>>=_
+  occurring-stops e q = record { run = λ ss. rw q; grown = since-failed _ _ }
+
+  pub occurring-goes : (h : Hole) (u : ℕ) (ws₁ : List ℕ) (x : Walked) → w ≡ To u h → Does n (pushOccurrence R (h .0) vs) ws u ws₁ x
+      → Then n (occurring R vs) ws (rooted w) ws₁ x
+  unfolding _>>=_
+  occurring-goes h u ws₁ x e p = record { run = λ ss. rw e (p .run ss); grown = p .grown }
 
 module _ (R n h : ℕ) (m : Map) (ws ss : List ℕ) (u : ℕ) (b : Bool) (is : b ≡ eqb (length (mapOf false m)) (m .len)) where
   pub keep-all : (ws₁ : List ℕ) (x : Walked) → b ≡ true → Does n (pushOccurrence R h (side false (mapOf false m))) ws u ws₁ x
@@ -81,8 +94,8 @@ pub record Occurring (ws : List ℕ) (n R : ℕ) (m : Map) (x : Walked) : Type 0
   pub whole : Whole m
   pub since : Since n x
 
-pub occurring-writes : (ws : List ℕ) (n R : ℕ) (m : Map) (x : Walked) (r u : ℕ) → Occurring ws n R m x → x ≡ Root r u → Writing ws n u R m
-occurring-writes ws n R m x r u p e = record { room = p .room; since = p .since .since r u e; whole = p .whole }
+pub occurring-writes : (ws : List ℕ) (n R : ℕ) (m : Map) (x : Narrowed) (h : Hole) (u : ℕ) → Occurring ws n R m (rooted x) → x ≡ To u h → Writing ws n u R m
+occurring-writes ws n R m x h u p e = record { room = p .room; since = p .since .since (h .0) u (rw e); whole = p .whole }
 
 -- what narrowing asks
 pub record Narrowing (ws ss : List ℕ) (n u R h : ℕ) (m : Map) : Type 0 where

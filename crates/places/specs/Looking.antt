@@ -13,7 +13,10 @@ use mir.Val.{Fits}
 use borrow.Author.Tests.{lt-ltb, le-ltb, eq-eqb, ne-eqb}
 use Rattle.rules.specs.declared.Found.{Found}
 use Rattle.rules.specs.declared.Found.the-variants.{At, Nowhere}
+use Rattle.table.specs.declared.Variable.{Variable}
 use Rattle.places.specs.declared.Map.{Map}
+use Rattle.places.specs.declared.Place.{Place}
+use Rattle.places.specs.declared.Place.the-variants.{At as To, Nowhere as Lost}
 use Rattle.rules.specs.Words.{NONE}
 use Rattle.rules.specs.Map.{Map as Pairs, lookup, placeOf, toPositions}
 use Rattle.invariants.specs.Places.{Low}
@@ -118,18 +121,30 @@ look-above m b v r e h = rw e h
 pub look-inside : (m : Map) (b : Bool) (v : ℕ) (r : Found) → b ≡ false → lookup (mapOf false m) v ≡ r → lookup (mapOf b m) v ≡ r
 look-inside m b v r e h = rw e h
 
+-- a place as the rules have it
+abbrev pub foundAt : Place → Found
+foundAt (To v) = At (v .0)
+foundAt Lost = Nowhere
+
 module _ (m : Pairs) (d v : ℕ) where
   pub place-inner : v < d → placeOf m d v ≡ At v
   unfolding placeOf
   place-inner h = rw (lt-ltb _ _ h, placeOf)
 
-  pub place-out : (s : Found) → d ≤ v → lookup m (v - d) ≡ s → s ≡ Nowhere → placeOf m d v ≡ Nowhere
+  pub place-out : d ≤ v → lookup m (v - d) ≡ Nowhere → placeOf m d v ≡ Nowhere
   unfolding placeOf
-  place-out s h e f = rw (le-ltb _ _ h, placeOf, e, f)
+  place-out h e = rw (le-ltb _ _ h, placeOf, e)
 
-  pub place-at : (s : Found) (w : ℕ) → d ≤ v → lookup m (v - d) ≡ s → s ≡ At w → placeOf m d v ≡ At (w + d)
+  pub place-at : (w : ℕ) → d ≤ v → lookup m (v - d) ≡ At w → placeOf m d v ≡ At (w + d)
   unfolding placeOf
-  place-at s w h e f = rw (le-ltb _ _ h, placeOf, e, f)
+  place-at w h e = rw (le-ltb _ _ h, placeOf, e)
+
+  module _ (x : Place) (h : d ≤ v) (e : lookup m (v - d) ≡ foundAt x) where
+    pub led-out : x ≡ Lost → placeOf m d v ≡ Nowhere
+    led-out f = place-out h (e ∙ rw f)
+
+    pub led-at : (w : Variable) → x ≡ To w → placeOf m d v ≡ At (w .0 + d)
+    led-at w f = place-at (w .0) h (e ∙ rw f)
 
 -- what a lookup under d lambdas asks
 pub record Looks (b : Bool) (m : Map) (d : ℕ) : Type 0 where
@@ -138,8 +153,11 @@ pub record Looks (b : Bool) (m : Map) (d : ℕ) : Type 0 where
   pub low : Low (mapOf b m) top
   pub fits : top + d < 134217728
 
-pub place-fits : (b : Bool) (m : Map) (d x w : ℕ) (s : Found) → Looks b m d → lookup (mapOf b m) x ≡ s → s ≡ At w → Fits w32 (w + d)
-place-fits b m d x w s h e f = let k = h .low .low x w (e ∙ f) in let g = h .fits in record { fits = omega arith }
+pub place-fits : (b : Bool) (m : Map) (d v w : ℕ) → Looks b m d → lookup (mapOf b m) v ≡ At w → Fits w32 (w + d)
+place-fits b m d v w h e = let k = h .low .low v w e in let g = h .fits in record { fits = omega arith }
+
+pub led-fits : (b : Bool) (m : Map) (d v : ℕ) (x : Place) (w : Variable) → Looks b m d → lookup (mapOf b m) v ≡ foundAt x → x ≡ To w → Fits w32 (w .0 + d)
+led-fits b m d v x w h e f = place-fits b m d v (w .0) h (e ∙ rw f)
 
 -- below a solved hole, under d lambdas, a variable is bound inside or has a position
 pub record Within (b : Bool) (m : Map) (d v : ℕ) : Type 0 where
@@ -160,6 +178,10 @@ pub seat-at : (p s : Found) (w : ℕ) → p ≡ s → s ≡ At w → seat p ≡ 
 unfolding seat
 seat-at p s w e f = rw (e, f)
 
-pub seat-none : (p s : Found) → p ≡ s → s ≡ Nowhere → seat p ≡ NONE
+pub placed-seat : (p : Found) (x : Place) (v : Variable) → p ≡ foundAt x → x ≡ To v → seat p ≡ v .0
 unfolding seat
-seat-none p s e f = rw (e, f)
+placed-seat p x v e f = rw (e, f)
+
+pub no-seat : (p : Found) (x : Place) → p ≡ foundAt x → x ≡ Lost → seat p ≡ NONE
+unfolding seat
+no-seat p x e f = rw (e, f)

@@ -1,5 +1,4 @@
 // The partial map of the walk by value: a place for each position of an argument list, what it says under lambdas, and the maps that a hole's arguments give.
-use rules::Found;
 use table::NONE;
 use table::Variable;
 use table::read;
@@ -11,7 +10,7 @@ ghost use lib.Dec.{eqb};
 ghost use Rattle.rules.specs.Words.{fieldA};
 ghost use Rattle.rules.specs.Map.{lookup, placeOf};
 ghost use Rattle.places.specs.Maps.{mapOf, Whole, noPlace};
-ghost use Rattle.places.specs.Looking.{Looks, Within, seat};
+ghost use Rattle.places.specs.Looking.{Looks, Within, foundAt, seat};
 ghost use Rattle.places.specs.Lists.{Counts};
 ghost use Rattle.places.specs.Arguments.{Arguments, Ordered};
 ghost use Rattle.places.specs.Follow.{Following, Followed};
@@ -24,6 +23,12 @@ pub struct Map {
     pub len: usize,
 }
 
+// Where a map leads a variable: the number of the variable that stands for it there, or nowhere.
+pub enum Place {
+    At(Variable),
+    Nowhere,
+}
+
 // The map without a place.
 pub fn empty() -> Map
     ensures { λ r. ⌜ noPlace ≡ r ⌝ }
@@ -34,57 +39,57 @@ pub fn empty() -> Map
     }
 }
 
-// Which position has this place.
-fn position_of(map: Map, place: u32) -> Found
+// Which position has this variable as its place: a position is the number of a context variable.
+fn position_of(map: Map, v: Variable) -> Place
     requires { ⌜ Whole map ⌝ }
-    ensures { λ r. ⌜ lookup (mapOf true map) place ≡ r ⌝ }
+    ensures { λ r. ⌜ lookup (mapOf true map) (v .0) ≡ foundAt r ⌝ }
 {
     let n = map.len;
     let mut i = 0;
     while i < n {
-        if map.places[i] == place {
-            return Found::At(i as u32);
+        if map.places[i] == v.0 {
+            return Place::At(Variable(i as u32));
         }
         i += 1;
     }
-    Found::Nowhere
+    Place::Nowhere
 }
 
 // Which place this position has.
-fn place_at(map: Map, position: usize) -> Found
+fn place_at(map: Map, position: usize) -> Place
     requires { ⌜ Whole map × (position < map .len) ⌝ }
-    ensures { λ r. ⌜ lookup (mapOf false map) position ≡ r ⌝ }
+    ensures { λ r. ⌜ lookup (mapOf false map) position ≡ foundAt r ⌝ }
 {
     let w = map.places[position];
     if w == NONE {
-        return Found::Nowhere;
+        return Place::Nowhere;
     }
-    Found::At(w)
+    Place::At(Variable(w))
 }
 
 // Where the map leads a variable: from places to positions on the side of a pair, `above` all solved holes, else from positions to places.
-fn look(map: Map, above: bool, v: Variable) -> Found
+fn look(map: Map, above: bool, v: Variable) -> Place
     requires { ⌜ Whole map × Within above map 0 (v .0) ⌝ }
-    ensures { λ r. ⌜ lookup (mapOf above map) (v .0) ≡ r ⌝ }
+    ensures { λ r. ⌜ lookup (mapOf above map) (v .0) ≡ foundAt r ⌝ }
 {
     if above {
-        return position_of(map, v.0);
+        return position_of(map, v);
     }
     place_at(map, v.0 as usize)
 }
 
 // The same under `depth` lambdas: variables bound inside stay.
-pub fn place_of(map: Map, above: bool, depth: u32, v: Variable) -> Found
+pub fn place_of(map: Map, above: bool, depth: u32, v: Variable) -> Place
     requires { ⌜ Looks above map depth × Within above map depth (v .0) ⌝ }
-    ensures { λ r. ⌜ placeOf (mapOf above map) depth (v .0) ≡ r ⌝ }
+    ensures { λ r. ⌜ placeOf (mapOf above map) depth (v .0) ≡ foundAt r ⌝ }
 {
     if v.0 < depth {
-        return Found::At(v.0);
+        return Place::At(v);
     }
-    let Found::At(to) = look(map, above, Variable(v.0 - depth)) else {
-        return Found::Nowhere;
+    let Place::At(to) = look(map, above, Variable(v.0 - depth)) else {
+        return Place::Nowhere;
     };
-    Found::At(to + depth)
+    Place::At(Variable(to.0 + depth))
 }
 
 // The place of a variable, or NONE.
@@ -92,10 +97,10 @@ fn place_or_none(map: Map, above: bool, depth: u32, v: Variable) -> u32
     requires { ⌜ Looks above map depth × Within above map depth (v .0) ⌝ }
     ensures { λ r. ⌜ seat (placeOf (mapOf above map) depth (v .0)) ≡ r ⌝ }
 {
-    let Found::At(to) = place_of(map, above, depth, v) else {
+    let Place::At(to) = place_of(map, above, depth, v) else {
         return NONE;
     };
-    to
+    to.0
 }
 
 // The variable that a hole's argument names.

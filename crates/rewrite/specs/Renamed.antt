@@ -25,7 +25,7 @@ module _ (m : Map) (d v : ℕ) where
 
   module _ (r : Renaming m d v) (le : d ≤ v) where
     not-out : lookup (mapOf false m) (v - d) ≡ Nowhere → ⊥
-    not-out e = let q : At (r .to) ≡ Nowhere = sym (r .has) ∙ place-out (mapOf false m) d v Nowhere le e refl in let z : _≡_ {A = ℕ} 0 1 = cc in absurd (omega arith)
+    not-out e = let q : At (r .to) ≡ Nowhere = sym (r .has) ∙ place-out (mapOf false m) d v le e in let z : _≡_ {A = ℕ} 0 1 = cc in absurd (omega arith)
 
     inside : v - d < m .len
     inside = go (decLt (v - d) (m .len))
@@ -41,7 +41,7 @@ module _ (m : Map) (d v : ℕ) where
     renamed-in = let h = inside in let f = r .looks .whole .few in omega arith
 
     pub renamed-fits : Fits w32 (getD (m .places) (v - d) 0 + d)
-    renamed-fits = place-fits false m d (v - d) _ _ (r .looks) leads-to refl
+    renamed-fits = place-fits false m d (v - d) _ (r .looks) leads-to
 
     pub renamed-outer : placeOf (mapOf false m) d v ≡ At (getD (m .places) (v - d) 0 + d)
-    renamed-outer = place-at (mapOf false m) d v _ _ le leads-to refl
+    renamed-outer = place-at (mapOf false m) d v _ le leads-to

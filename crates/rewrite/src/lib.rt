@@ -22,15 +22,15 @@ ghost use Rattle.rewrite.specs.Renamings.{Renamings};
 ghost use Rattle.rewrite.specs.Lambdas.{Under};
 
 // Where a variable that has a place is led; variables bound inside stay.
-pub fn renamed(map: Map, depth: u32, v: Variable) -> u32
+pub fn renamed(map: Map, depth: u32, v: Variable) -> Variable
     requires { ⌜ Renaming map depth (v .0) ⌝ }
-    ensures { λ r. ⌜ placeOf (mapOf false map) depth (v .0) ≡ At r ⌝ }
+    ensures { λ r. ⌜ placeOf (mapOf false map) depth (v .0) ≡ At (r .0) ⌝ }
 {
     if v.0 < depth {
-        return v.0;
+        return v;
     }
     let position = (v.0 - depth) as usize;
-    map.places[position] + depth
+    Variable(map.places[position] + depth)
 }
 
 // The map that follows a hole's arguments, each of which has a place: from each position to that place.
@@ -44,7 +44,8 @@ pub fn renamings(table: &[u32], map: Map, depth: u32, list: u32) -> Map
     while at != NONE {
         let cell = read(table, at);
         let x = variable_of(table, cell.a);
-        m.places[j] = renamed(map, depth, x);
+        let y = renamed(map, depth, x);
+        m.places[j] = y.0;
         j += 1;
         at = cell.b;
     }

@@ -6,10 +6,11 @@ use lib.ListN.{replicate}
 use Rattle.rules.specs.Words.{NONE, BT, AR, HO, CE, LA, CA, VA, HA, EQ}
 use Rattle.rules.specs.Answers.{reply}
 use Rattle.rules.specs.Solve.{solve}
-use Rattle.rules.specs.Show.{show}
-use Rattle.rules.specs.File.{read}
+use Rattle.rules.specs.Show.{Shown, show}
+use Rattle.rules.specs.File.{Read, read}
 use Rattle.rules.specs.Table.{_·_, example, given, told, named, P7}
 use Rattle.rules.specs.Examples.{Q1}
+use Rattle.rules.specs.Written.{old}
 use Rattle.rules.specs.All.{everything}
 
 -- what solving gives for these records with R = 40 and C = 4 is answer a at place p
@@ -166,17 +167,43 @@ pub room-for-4096 : solve (replicate 16388 0) (replicate 4097 0) [] 4097 .said �
 unfolding everything
 room-for-4096 = refl
 
--- show asks for an input hole (10) after the records are right (5) and before typing and patterns (7)
-pub order-of-refusals : map (λ h. show P7 (replicate 18 0) [] [] 18 h .behind .said) (3 ∷ 8 ∷ 18 ∷ []) ≡ reply 10 0 0 ∷ reply 7 13 0 ∷ reply 10 0 0 ∷ []
+-- P7, then f = f, of which no side checks, then a record with an unknown tag
+abbrev worst : List ℕ
+worst = P7 ++ ((CA, 4, NONE, 0) · (CA, 4, NONE, 0) · (EQ, 18, 19, 0) · (11, 0, 0, 0) · [])
+
+-- showing record h of the first n records, with so many solution words
+abbrev asked : ℕ → ℕ → ℕ → Shown
+asked n h k = show worst (replicate k old) (replicate 5 old) (replicate 6 old) n h
+
+-- answer a at place p, and every word as it was
+abbrev refused-at : ℕ → ℕ → ℕ → Shown
+refused-at a p k =
+    record {
+      behind = record { table = worst; solutions = replicate k old; queue = replicate 5 old; said = reply a p 0 };
+      output = replicate 6 old;
+    }
+
+-- 4, 5, 10, 6, 7: each stands before all that come after it, which its input breaks too; nothing is written
+pub order-of-refusals : asked 22 3 21 ∷ asked 22 3 22 ∷ asked 21 3 22 ∷ asked 21 8 22 ∷ asked 18 8 22 ∷ []
+    ≡ refused-at 4 0 21 ∷ refused-at 5 21 22 ∷ refused-at 10 0 22 ∷ refused-at 6 20 22 ∷ refused-at 7 13 22 ∷ []
 unfolding everything
 order-of-refusals = refl
 
--- a file of 13 bytes; one of 28,686; a record without room; an unknown mark: 12, 12, 4, 13
-pub files-refused : map (λ bs. read bs (1 ∷ 2 ∷ 3 ∷ []) .said) (replicate 13 66 ∷ replicate 28686 66 ∷ replicate 14 66 ∷ []) ≡ reply 12 0 0 ∷ reply 12 0 0 ∷ reply 4 0 0 ∷ []
+-- record 18 is no input hole where n is 18, although a hole stands there
+pub hole-past-input : show (P7 ++ ((HO, NONE, 0, 0) · [])) (replicate 19 0) [] [] 18 18 .behind .said ≡ reply 10 0 0
+unfolding everything
+hole-past-input = refl
+
+-- three words that a refused reading leaves, and its reply
+abbrev unread : ℕ → Read
+unread a = record { table = old ∷ old ∷ old ∷ []; said = reply a 0 0 }
+
+-- files of 13 and 28,686 bytes are 12, the latter also without room for it; one of 28,672 bytes is not, and is 4 before 13
+pub files-refused : map (λ k. read (replicate k 66) (old ∷ old ∷ old ∷ [])) (13 ∷ 28686 ∷ 28672 ∷ []) ≡ unread 12 ∷ unread 12 ∷ unread 4 ∷ []
 unfolding everything
 files-refused = refl
 
--- marks are judged in record order and nothing is written: a good record, then one that begins `BB`
-pub unknown-mark : read (66 ∷ 84 ∷ replicate 12 0 ++ replicate 28 66) (replicate 12 7) .said ≡ reply 13 1 0
+-- marks are judged in record order and nothing is written: a good record, then two that begin `BB`
+pub unknown-mark : read (66 ∷ 84 ∷ replicate 12 0 ++ replicate 28 66) (replicate 12 old) ≡ record { table = replicate 12 old; said = reply 13 1 0 }
 unfolding everything
 unknown-mark = refl

@@ -12,7 +12,7 @@ use Rattle.rules.specs.Examples.{Q1}
 use Rattle.rules.specs.All.{everything}
 
 -- a word that was there before
-abbrev old : ℕ
+abbrev pub old : ℕ
 old = 7
 
 -- solving in a table of R records, with room for C pairs, all other words old
@@ -106,6 +106,64 @@ bodies-at-once = refl
 pub right-side-expanded : solving P12 17 2 ≡ solved-by P12 ((HA, 7, NONE, 0) · (HA, 7, NONE, 0) · []) 17 2 (set (replicate 17 NONE) 6 14)
 unfolding everything
 right-side-expanded = refl
+
+-- f U[] = f a; U[] = V[]
+abbrev waiting : List ℕ
+waiting =
+    named (
+    (HO, NONE, 0, 0) · (HO, NONE, 0, 0) · (HA, 6, NONE, 0) · (CE, 8, NONE, 0) · (CA, 4, 9, 0) · (CA, 3, NONE, 0) · (CE, 11, NONE, 0)
+    · (CA, 4, 12, 0) · (EQ, 10, 13, 0) · (HA, 6, NONE, 0) · (HA, 7, NONE, 0) · (EQ, 15, 16, 0) · []
+    )
+
+-- first in, first out: U is solved by V before the arguments, U and a, are met; then the copy's hole V is solved by a
+pub first-in-first-out : solving waiting 24 2
+    ≡ solved-by waiting ((HA, 7, NONE, 0) · (HA, 7, NONE, 0) · (CA, 3, NONE, 0) · []) 24 2 (set (set (replicate 24 NONE) 6 18) 7 20)
+unfolding everything
+first-in-first-out = refl
+
+-- g U[] V[] = g V[] a
+abbrev sided : List ℕ
+sided =
+    named (
+    (HO, NONE, 0, 0) · (HO, NONE, 0, 0) · (HA, 6, NONE, 0) · (HA, 7, NONE, 0) · (CE, 9, NONE, 0) · (CE, 8, 10, 0) · (CA, 5, 11, 0)
+    · (HA, 7, NONE, 0) · (CA, 3, NONE, 0) · (CE, 14, NONE, 0) · (CE, 13, 15, 0) · (CA, 5, 16, 0) · (EQ, 12, 17, 0) · []
+    )
+
+-- argument pairs join in order and keep their sides: U, on the left, is solved by V, and after that V by a
+pub argument-pairs-in-order : solving sided 24 2
+    ≡ solved-by sided ((HA, 7, NONE, 0) · (CA, 3, NONE, 0) · []) 24 2 (set (set (replicate 24 NONE) 6 19) 7 20)
+unfolding everything
+argument-pairs-in-order = refl
+
+-- U[] = W[]; V[] = a; U[] = V[]
+abbrev both-solved : List ℕ
+both-solved =
+    named (
+    (HO, NONE, 0, 0) · (HO, NONE, 0, 0) · (HO, NONE, 0, 0) · (HA, 6, NONE, 0) · (HA, 8, NONE, 0) · (EQ, 9, 10, 0) · (HA, 7, NONE, 0)
+    · (CA, 3, NONE, 0) · (EQ, 12, 13, 0) · (HA, 6, NONE, 0) · (HA, 7, NONE, 0) · (EQ, 15, 16, 0) · []
+    )
+
+-- the left side's copy, W, is written before the right side's, a; then W is solved by a
+pub left-side-first : solving both-solved 24 3
+    ≡ solved-by both-solved (
+    (HA, 8, NONE, 0) · (CA, 3, NONE, 0) · (HA, 8, NONE, 0) · (CA, 3, NONE, 0) · (CA, 3, NONE, 0) · []
+    ) 24 3 (set (set (set (replicate 24 NONE) 6 18) 7 19) 8 22)
+unfolding everything
+left-side-first = refl
+
+-- U[] = V[]; V[] = a; U[] = a
+abbrev twice-solved : List ℕ
+twice-solved =
+    named (
+    (HO, NONE, 0, 0) · (HO, NONE, 0, 0) · (HA, 6, NONE, 0) · (HA, 7, NONE, 0) · (EQ, 8, 9, 0) · (HA, 7, NONE, 0) · (CA, 3, NONE, 0)
+    · (EQ, 11, 12, 0) · (HA, 6, NONE, 0) · (CA, 3, NONE, 0) · (EQ, 14, 15, 0) · []
+    )
+
+-- while the head is a solved hole: the copy of U's solution is V, which is solved, and is replaced by a copy of a
+pub expanded-to-the-end : solving twice-solved 24 3
+    ≡ solved-by twice-solved ((HA, 7, NONE, 0) · (CA, 3, NONE, 0) · (HA, 7, NONE, 0) · (CA, 3, NONE, 0) · []) 24 3 (set (set (replicate 24 NONE) 6 17) 7 18)
+unfolding everything
+expanded-to-the-end = refl
 
 -- U[] = g a (f a)
 abbrev ordered : List ℕ

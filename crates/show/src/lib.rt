@@ -80,7 +80,8 @@ fn show_body(
     }
     let mut head = rec.a;
     if rec.tag == VA {
-        head = renamed(map, depth, Variable(rec.a));
+        let v = renamed(map, depth, Variable(rec.a));
+        head = v.0;
     }
     if rec.b == NONE {
         return push(output, 0, used, task.room, rec.tag, head, NONE);

@@ -6,12 +6,16 @@ use native.Mathlib.Omega.{arith}
 use Rattle.rules.specs.declared.Failure.{Failure}
 use Rattle.store.specs.declared.Walked.{Walked}
 use Rattle.store.specs.declared.Walked.the-variants.{Root, Failed}
+use Rattle.table.specs.declared.Hole.{Hole}
+use Rattle.narrow.specs.declared.Narrowed.{Narrowed}
+use Rattle.narrow.specs.declared.Narrowed.the-variants.{To, Failed as Lost}
 use Rattle.queue.specs.declared.Ring.{Ring}
 use Rattle.step.specs.declared.Step.{Step}
 use Rattle.step.specs.declared.Step.the-variants.{On, Done, Failed as Fell}
 use Rattle.rules.specs.Store.{Store, Out, goes, fails, _>>=_}
 use Rattle.rules.specs.Machine.{Pair as Waiting, Next, on, done}
 use Rattle.store.specs.Said.{store, shown}
+use Rattle.narrow.specs.Narrowing.{rooted}
 use Rattle.queue.specs.Ring.{Fine, view}
 
 -- the words left and the answer, as the rules have them
@@ -75,3 +79,9 @@ finish-stops g w e h = record { said = λ ws ss q cap. rw h; quiet = quiet-faile
 pub finish-goes : (g : Ring) (w : Walked) (t u : ℕ) → w ≡ Root t u → ThenFinishes g w (Done g u)
 unfolding _>>=_
 finish-goes g w t u h = record { said = λ ws ss q cap. rw h; quiet = quiet-done g u }
+
+pub narrowed-stops : (g : Ring) (w : Narrowed) (e : Failure) → w ≡ Lost e → ThenFinishes g (rooted w) (Fell e)
+narrowed-stops g w e h = finish-stops g (rooted w) e (rw h)
+
+pub narrowed-goes : (g : Ring) (w : Narrowed) (n : Hole) (u : ℕ) → w ≡ To u n → ThenFinishes g (rooted w) (Done g u)
+narrowed-goes g w n u h = finish-goes g (rooted w) (n .0) u (rw h)

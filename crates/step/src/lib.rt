@@ -1,5 +1,6 @@
 // A step of the machine for the pair taken: step 1 for the left side, then for the right side, then steps 2 to 5.
 use copy::expand;
+use narrow::Narrowed;
 use narrow::narrow;
 use places::Map;
 use places::agreeing;
@@ -16,6 +17,7 @@ use table::Record;
 use table::read;
 use walk::assign;
 ghost use Rattle.rules.specs.Machine.{meet as meetOf, step as stepOf};
+ghost use Rattle.narrow.specs.Narrowing.{rooted};
 ghost use Rattle.queue.specs.Ring.{view};
 ghost use Rattle.queue.specs.Arguments.{Joining};
 ghost use Rattle.step.specs.Said.{Steps, ThenSteps, ThenFinishes};
@@ -33,7 +35,7 @@ pub enum Step {
 }
 
 // What two heads that are no solved holes ask for: steps 2, 3, 4, 5 for a side that a hole heads, or a clash.
-pub enum Meeting {
+enum Meeting {
     Bodies { left: u32, right: u32 },
     Arguments { left: u32, right: u32 },
     SameHole,
@@ -127,6 +129,16 @@ fn done(ring: Ring, walked: Walked) -> Step
     }
 }
 
+// The same after narrowing.
+fn narrowing_done(ring: Ring, new: Narrowed) -> Step
+    ensures { λ x. ⌜ ThenFinishes ring (rooted new) x ⌝ }
+{
+    match new {
+        Narrowed::Failed(e) => Step::Failed(e),
+        Narrowed::To { used, hole: _ } => Step::Done { ring, used },
+    }
+}
+
 // The positions at which the arguments of two occurrences agree.
 fn agreement(table: &[u32], left: u32, right: u32) -> Map
     requires { ⌜ Occurrences (now table) left right ⌝ }
@@ -157,7 +169,7 @@ fn same_hole(
     }
     let one = read(table, left);
     let new = narrow(table, solutions, n, used, room, Hole(one.a), kept);
-    done(ring, new)
+    narrowing_done(ring, new)
 }
 
 // Steps 2 to 5, for two sides whose heads are no solved holes.

@@ -49,7 +49,7 @@ fn letter(tag: u32) -> u8
 }
 
 // A letter with its number.
-pub fn head(out: &mut [u8], at: usize, tag: u32, number: u32) -> usize
+fn head(out: &mut [u8], at: usize, tag: u32, number: u32) -> usize
     ensures { λ r. ⌜ written at (headText tag number) (now (out .entry)) ≡ (now (out .exit), r) ⌝ }
 {
     let next = put(out, at, letter(tag));
@@ -57,7 +57,7 @@ pub fn head(out: &mut [u8], at: usize, tag: u32, number: u32) -> usize
 }
 
 // The closing bracket of a list that is not empty.
-pub fn close_list(out: &mut [u8], at: usize, opened: u32) -> usize
+fn close_list(out: &mut [u8], at: usize, opened: u32) -> usize
     ensures { λ r. ⌜ written at (closing opened) (now (out .entry)) ≡ (now (out .exit), r) ⌝ }
 {
     if opened == table::NONE {
@@ -67,7 +67,7 @@ pub fn close_list(out: &mut [u8], at: usize, opened: u32) -> usize
 }
 
 // A term: `\` then body; a letter with its number, and arguments in round brackets.
-pub fn term(out: &mut [u8], at: usize, words: &[u32], r: u32) -> usize
+fn term(out: &mut [u8], at: usize, words: &[u32], r: u32) -> usize
     requires { ⌜ Term (now words) r ⌝ }
     ensures { λ x. ⌜ written at (printed enough (now (words .entry)) r) (now (out .entry)) ≡ (now (out .exit), x) ⌝ }
 {
@@ -82,7 +82,7 @@ pub fn term(out: &mut [u8], at: usize, words: &[u32], r: u32) -> usize
 }
 
 // Arguments parted by commas, with a byte in front of the first.
-pub fn arguments(out: &mut [u8], at: usize, words: &[u32], list: u32, before: u8) -> usize
+fn arguments(out: &mut [u8], at: usize, words: &[u32], list: u32, before: u8) -> usize
     requires { ⌜ Terms (now words) list ⌝ }
     ensures { λ x. ⌜ written at (listText before (now (words .entry)) list) (now (out .entry)) ≡ (now (out .exit), x) ⌝ }
 {
@@ -96,7 +96,7 @@ pub fn arguments(out: &mut [u8], at: usize, words: &[u32], list: u32, before: u8
 }
 
 // A number in decimal and a byte after it.
-pub fn number(out: &mut [u8], at: usize, x: u32, after: u8) -> usize
+fn number(out: &mut [u8], at: usize, x: u32, after: u8) -> usize
     ensures { λ r. ⌜ written at (numberText x after) (now (out .entry)) ≡ (now (out .exit), r) ⌝ }
 {
     let next = decimal(out, at, x);
@@ -113,7 +113,7 @@ pub fn reply_line(out: &mut [u8], at: usize, reply: Reply) -> usize
 }
 
 // `h`, its number, ` = `.
-pub fn start_hole(out: &mut [u8], at: usize, hole: Hole) -> usize
+fn start_hole(out: &mut [u8], at: usize, hole: Hole) -> usize
     ensures { λ r. ⌜ written at (startText (hole .0)) (now (out .entry)) ≡ (now (out .exit), r) ⌝ }
 {
     let h = put(out, at, b'h');
@@ -123,7 +123,7 @@ pub fn start_hole(out: &mut [u8], at: usize, hole: Hole) -> usize
 }
 
 // What stands behind ` = `: the answer, whose head is the last output record; `?` for answer 11.
-pub fn answer(out: &mut [u8], at: usize, said: Reply, output: &[u32]) -> usize
+fn answer(out: &mut [u8], at: usize, said: Reply, output: &[u32]) -> usize
     requires { ⌜ Answered said (now output) ⌝ }
     ensures { λ r. ⌜ written at (answerText said (now (output .entry))) (now (out .entry)) ≡ (now (out .exit), r) ⌝ }
 {

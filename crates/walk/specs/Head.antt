@@ -9,17 +9,28 @@ use borrow.Author.Tests.{eq-eqb, ne-eqb}
 use Rattle.rules.specs.declared.Found.{Found}
 use Rattle.rules.specs.declared.Found.the-variants.{At, Nowhere}
 use Rattle.table.specs.declared.Record.{Record}
+use Rattle.table.specs.declared.Variable.{Variable}
+use Rattle.places.specs.declared.Place.{Place}
+use Rattle.places.specs.declared.Place.the-variants.{At as To, Nowhere as Lost}
 use Rattle.rules.specs.Words.{VA}
 use Rattle.rules.specs.Map.{Map, placeOf}
+use Rattle.places.specs.Looking.{foundAt}
 use Rattle.rewrite.specs.Levels.{Headed, of-constant, of-variable}
 
 unfoldable pub headOf : Map → ℕ → Record → Found
 headOf m d w = elim (eqb (w .tag) VA) [ true ↦ placeOf m d (w .a) | false ↦ At (w .a) ]
 
 module _ (m : Map) (d : ℕ) (w : Record) where
-  pub head-variable : (s : Found) → w .tag ≡ 8 → placeOf m d (w .a) ≡ s → headOf m d w ≡ s
+  head-variable : (s : Found) → w .tag ≡ 8 → placeOf m d (w .a) ≡ s → headOf m d w ≡ s
   unfolding headOf
   head-variable s t p = rw (eq-eqb _ _ t, headOf) p
+
+  module _ (x : Place) (t : w .tag ≡ 8) (p : placeOf m d (w .a) ≡ foundAt x) where
+    pub head-placed : (v : Variable) → x ≡ To v → headOf m d w ≡ At (v .0)
+    head-placed v q = head-variable _ t (p ∙ rw q)
+
+    pub head-lost : x ≡ Lost → headOf m d w ≡ Nowhere
+    head-lost q = head-variable _ t (p ∙ rw q)
 
   pub head-constant : (w .tag ≡ 8 → ⊥) → headOf m d w ≡ At (w .a)
   unfolding headOf

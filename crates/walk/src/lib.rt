@@ -2,6 +2,7 @@
 use narrow::keep_placed;
 use narrow::push_cells;
 use places::Map;
+use places::Place;
 use places::arguments;
 use places::follow;
 use places::place_of;
@@ -55,7 +56,10 @@ fn head_of(map: Map, above: bool, depth: u32, rec: Record) -> Found
     ensures { λ r. ⌜ headOf (mapOf above map) depth rec ≡ r ⌝ }
 {
     if rec.tag == VA {
-        return place_of(map, above, depth, Variable(rec.a));
+        let Place::At(v) = place_of(map, above, depth, Variable(rec.a)) else {
+            return Found::Nowhere;
+        };
+        return Found::At(v.0);
     }
     Found::At(rec.a)
 }

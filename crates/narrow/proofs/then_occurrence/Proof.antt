@@ -1,6 +1,5 @@
 -- `narrow::then_occurrence` meets its contract.
-use Rattle.store.specs.Push.{then-stops}
-use Rattle.narrow.specs.Narrowing.{occurring-writes, occurring-goes}
+use Rattle.narrow.specs.Narrowing.{occurring-writes, occurring-stops, occurring-goes}
 use borrow.Author.Needs.{needs}
 use Rattle.narrow.proofs.then_occurrence.Statement.{statement}
 use Rattle.narrow.proofs.then_occurrence.Tie as tie
@@ -15,6 +14,6 @@ then-occurrence-spec =
     (λ c. search needs)
     (λ c. search needs)
     (λ c κs. search occurring-writes)
-    (λ c. search then-stops)
+    (λ c. search occurring-stops)
     (λ c. search needs)
     (λ c. search occurring-goes))

@@ -1,6 +1,6 @@
 -- `places::place_of` meets its contract.
 use borrow.Author.Needs.{needs}
-use Rattle.places.specs.Looking.{within-out, place-inner, place-out, place-at, place-fits}
+use Rattle.places.specs.Looking.{within-out, place-inner, led-out, led-at, led-fits}
 use Rattle.places.proofs.place_of.Statement.{statement}
 use Rattle.places.proofs.place_of.Tie as tie
 use Rattle.places.proofs.place_of.Reads as reads
@@ -14,6 +14,6 @@ place-of-spec =
     (λ c κs. (search needs, search within-out))
     (λ c. search needs)
     (λ c. search needs)
-    (λ c. search place-out)
-    (λ c. search place-fits)
-    (λ c. search place-at))
+    (λ c. search led-out)
+    (λ c. search led-fits)
+    (λ c. search led-at))

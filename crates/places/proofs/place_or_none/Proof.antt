@@ -1,6 +1,6 @@
 -- `places::place_or_none` meets its contract.
 use borrow.Author.Needs.{needs}
-use Rattle.places.specs.Looking.{seat-at, seat-none}
+use Rattle.places.specs.Looking.{placed-seat, no-seat}
 use Rattle.places.proofs.place_or_none.Statement.{statement}
 use Rattle.places.proofs.place_or_none.Tie as tie
 use Rattle.places.proofs.place_or_none.Reads as reads
@@ -13,5 +13,5 @@ place-or-none-spec =
     (λ c κs. search needs)
     (λ c. search needs)
     (λ c. search needs)
-    (λ c. search seat-none)
-    (λ c. search seat-at))
+    (λ c. search no-seat)
+    (λ c. search placed-seat))

@@ -8,10 +8,10 @@ use Rattle.places.proofs.position_of.Reads as reads
 use Rattle.places.proofs.position_of.Lts as lts
 
 abbrev Inv-loop : tie.InvT-loop
-Inv-loop place map n i₀ i = Ahead map place i
+Inv-loop v map n i₀ i = Ahead map (v .0) i
 
 abbrev μ-loop : tie.MeasureT-loop
-μ-loop place map n i₀ i = n - i
+μ-loop v map n i₀ i = n - i
 
 pub position-of-spec : {M : Type 1} → statement M
 position-of-spec =

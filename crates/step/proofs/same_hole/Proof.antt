@@ -8,7 +8,7 @@ use Rattle.step.proofs.same_hole.Lts as lts
 use Rattle.narrow.proofs.narrow.Reads as narrow-reads
 use Rattle.places.proofs.all_placed.Reads as all-placed-reads
 use Rattle.step.proofs.agreement.Reads as agreement-reads
-use Rattle.step.proofs.done.Reads as done-reads
+use Rattle.step.proofs.narrowing_done.Reads as narrowing-done-reads
 use Rattle.table.proofs.read.Reads as read-reads
 
 pub same-hole-spec : {M : Type 1} → statement M
