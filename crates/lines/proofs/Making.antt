@@ -53,9 +53,6 @@ module _ (i : ℕ) (x : Begun) (ws ss hs : List ℕ) where
     made-reply z text₁ r s = record { short = s .short; line = λ bs l. rw (z, first-is bs l) s }
 
     module _ (some : i ≡ 0 → ⊥) where
-      pub in-notes : i - 1 < length hs
-      in-notes = let f = m .lines .few in let s = m .some in omega arith
-
       pub hole-answerable : Answerable ws ss (getD hs (i - 1) 0)
       hole-answerable = let s = m .some in m .lines .answerable (i - 1) (omega arith)
 

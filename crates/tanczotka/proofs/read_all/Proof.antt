@@ -1,5 +1,5 @@
 -- `tanczotka::read_all` meets its contract.
-use Prim.Native.Nat.{_-_, _≤_}
+use Prim.Native.Nat.{_+_, _-_, _≤_}
 use mathlib.Core.Path.{_≡_, refl}
 use native.Mathlib.Omega.{arith}
 use lib.ListN.{length}
@@ -20,14 +20,11 @@ abbrev μ-loop : tie.MeasureT-loop
 returns-2 : tie.Need-returns-2 Inv-loop μ-loop
 returns-2 c = within-bytes _ _ (search needs)
 
-add-done : tie.Need-add-done Inv-loop μ-loop
-add-done c = let w = part-within (c .before .before .before .before .before .before .before .before .before .loop .bytes) _ _ _ (c .before .before .before .before .before .before .before .before .before .loop .inv .1) (c .before .before .before .before .before .before .read-some .ensures) (c .before .before .count .given .1) in search needs
-
-loop-less : tie.Need-loop-less Inv-loop μ-loop
-loop-less c = let w = part-within (c .before .before .before .before .before .before .before .before .before .loop .bytes) _ _ _ (c .before .before .before .before .before .before .before .before .before .loop .inv .1) (c .before .before .before .before .before .before .read-some .ensures) (c .before .before .count .given .1) in search needs
-
-loop-again : tie.Need-loop-again Inv-loop μ-loop
-loop-again c = let w = part-within (c .before .before .before .before .before .before .before .before .before .loop .bytes) _ _ _ (c .before .before .before .before .before .before .before .before .before .loop .inv .1) (c .before .before .before .before .before .before .read-some .ensures) (c .before .before .count .given .1) in (search needs, search needs)
+-- what was read lies in the bytes
+moved : (c : lts.Else1 (read-some-reads.Asked, read-some-reads.Learnt) reads.Pre reads.Post Inv-loop μ-loop)
+    → c .before .before .before .before .before .before .before .before .before .loop .done + c .before .before .count .given .0 .0 ≤ length (c .before .before .before .before .before .before .before .before .before .loop .bytes)
+moved c =
+    part-within (c .before .before .before .before .before .before .before .before .before .loop .bytes) _ _ _ (c .before .before .before .before .before .before .before .before .before .loop .inv .1) (c .before .before .before .before .before .before .read-some .ensures) (c .before .before .count .given .1)
 
 pub read-all-spec : {M : Type 1} → statement M
 read-all-spec =
@@ -45,9 +42,9 @@ read-all-spec =
     (λ c. search needs)
     (λ c. within-failed _)
     (λ c. search needs)
-    returns-2
-    add-done
-    loop-less
-    loop-again
+    (λ c. within-bytes _ _ (search needs))
+    (λ c. let w = moved c in search needs)
+    (λ c. let w = moved c in search needs)
+    (λ c. let w = moved c in (search needs, search needs))
     (λ c. search needs)
     (λ c. within-bytes _ _ (search needs)))
