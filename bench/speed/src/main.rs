@@ -7,8 +7,10 @@ mod processes;
 use measure::*;
 use std::process::ExitCode;
 
-const MOST_RATIO: f64 = 1.2;
-const MOST_GROWTH: f64 = 1.2;
+/// A row above this ratio is slow.
+const MOST_RATIO: f64 = 1.25;
+/// Cost per node grows where it grows more than the plain version's by more than a tenth.
+const MOST_GROWTH: f64 = 1.1;
 
 /// What the whole run gave.
 #[derive(Default)]
@@ -64,7 +66,7 @@ fn one_family(number: usize, summary: &mut Summary) -> Result<(), String> {
     for (which, row) in found.into_iter().enumerate() {
         let growth = [LIBRARY_GROWTH, PLAIN_GROWTH].map(|column| row[column] * nodes[1] / nodes[which]);
         let slow = row[RATIO] > MOST_RATIO;
-        let growing = which == 2 && growth[0] > MOST_GROWTH;
+        let growing = which == 2 && growth[0] > MOST_GROWTH * growth[1];
         print!("| {} | {} | {} | {} ", family.name, rows[which].size, rows[which].records.len(), nodes[which]);
         print!("| {:.0} | {:.0} | {:.2} ", row[LIBRARY], row[PLAIN], row[RATIO]);
         print!("| {:.0} | {:.1} ", row[MACHINE_ALONE], row[LIBRARY] / nodes[which]);

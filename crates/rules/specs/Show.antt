@@ -50,7 +50,7 @@ shows l os h =
       | zero ↦
           elim (answer (records os) (l .table) h (record { words = blank; solutions = l .solutions; used = 0 })) [
             | goes s r ↦ record { behind = answering l (reply 0 0 (s .used)); output = s .words }
-            | fails ws ss e ↦ record { behind = answering l (too-few); output = blank }
+            | fails ws ss e ↦ record { behind = answering l too-few; output = blank }
             | spent ↦ record { behind = unsaid; output = [] }
           ]
       | suc k ↦ record { behind = l; output = os }
