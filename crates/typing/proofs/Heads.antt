@@ -28,7 +28,7 @@ all : (ws : List ℕ) → whole ws ≡ ws
 all ws = take-all (length ws - 0) ws (omega arith)
 
 module _ (ws : List ℕ) (ty : ℕ) (p : TypeAt ws ty) where
-  pub final-arrow : tag ws ty ≡ AR → finalType enough ws ty ≡ finalType enough ws (fieldB ws ty)
+  final-arrow : tag ws ty ≡ AR → finalType enough ws ty ≡ finalType enough ws (fieldB ws ty)
   unfolding has
   final-arrow e = final-unrolled ws (p .top) (p .legal) ty (p .low) ∙ rw e
 
@@ -36,7 +36,7 @@ module _ (ws : List ℕ) (ty : ℕ) (p : TypeAt ws ty) where
   unfolding has
   domains-arrow e = domains-unrolled ws (p .top) (p .legal) ty (p .low) ∙ rw e
 
-  pub domains-base : (tag ws ty ≡ AR → ⊥) → domains enough ws ty ≡ []
+  domains-base : (tag ws ty ≡ AR → ⊥) → domains enough ws ty ≡ []
   unfolding has
   domains-base z = domains-unrolled ws (p .top) (p .legal) ty (p .low) ∙ rw (ne-eqb _ _ z)
 
@@ -53,13 +53,13 @@ module _ (ws : List ℕ) (ty : ℕ) (p : TypeAt ws ty) where
       arrow : tag ws ty ≡ AR
       arrow = sym (j .tag-is) ∙ e
 
-      pub result-less : x .b < ty
+      result-less : x .b < ty
       result-less = rw (j .b-is) (result-low ws ty p arrow)
 
-      pub result-type : TypeAt ws (x .b)
+      result-type : TypeAt ws (x .b)
       result-type = rw (j .b-is) (result-at ws ty p arrow)
 
-      pub final-more : (f : Final) → IsFinal ws (x .b) f → IsFinal ws ty (record { base = f .base; count = f .count + 1 })
+      final-more : (f : Final) → IsFinal ws (x .b) f → IsFinal ws ty (record { base = f .base; count = f .count + 1 })
       final-more f i =
           let lo = result-less in
           let few = i .few in

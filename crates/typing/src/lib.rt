@@ -14,7 +14,7 @@ ghost use mathlib.Core.Path.{_≡_};
 ghost use Prim.Native.Nat.{_+_, _*_, _<_, _≤_};
 ghost use lib.ListN.{length};
 ghost use Rattle.rules.specs.Lists.{enough};
-ghost use Rattle.rules.specs.Words.{NONE, VA, HA, tag, isType};
+ghost use Rattle.rules.specs.Words.{VA, HA, tag, isType};
 ghost use Rattle.rules.specs.Typing.{checks};
 ghost use Rattle.rules.specs.Pattern.{offence};
 ghost use Rattle.laws.specs.Places.{TypeAt, ListAt};
@@ -156,25 +156,18 @@ fn check_term(
         let Found::At(head) = head_type(table, stack, d, x) else {
             return false;
         };
-        let asked = final_type(table, head);
-        if asked.base != at {
+        let f = final_type(table, head);
+        if f.base != at {
             return false;
         }
-        if asked.count == 0 {
+        if f.count == 0 {
             return x.b == NONE;
         }
         if x.b == NONE {
             return false;
         }
-        let Checked::ButLast { last, ty: t } = check_args(
-            table,
-            stack,
-            low,
-            d,
-            x.b,
-            head,
-            asked.count,
-        ) else {
+        let Checked::ButLast { last, ty: t } = check_args(table, stack, low, d, x.b, head, f.count)
+        else {
             return false;
         };
         term = last;
