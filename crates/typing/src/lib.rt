@@ -124,7 +124,7 @@ fn bind(table: &[u32], stack: &mut [u16], depth: usize, ty: u32) -> Found
 }
 
 // A term checks at a type under the binders on the stack. The loop goes on with a lambda's body, and with a rigid head's last argument: with a
-// call for that one too "deep equal nests" doubles (0.99 to 1.93).
+// call for that one too "deep equal nests" large reads 1.82, and not 1.00.
 fn check_term(
     table: &[u32],
     stack: &mut [u16],
