@@ -12,7 +12,8 @@ use Rattle.rules.specs.declared.Found.{Found}
 use Rattle.rules.specs.declared.Found.the-variants.{At, Nowhere}
 use Rattle.rules.specs.Lists.{both, either, enough}
 use Rattle.rules.specs.Words.{HO, has}
-use Rattle.rules.specs.Answers.{records}
+use Rattle.rules.specs.declared.Refused.the-variants.{NoRoom, Broken, NoHole}
+use Rattle.rules.specs.Answers.{refusing, records}
 use Rattle.rules.specs.Records.{broken}
 use Rattle.rules.specs.Store.{Store, Out, goes, fails, spent}
 use Rattle.rules.specs.Solve.{refusal, filled, emptied, Behind, leaves, solve}
@@ -76,9 +77,9 @@ unfolding refusal leaves
 unasked-refused ws ss qs n e = go (either (ltb (records ws) n) (ltb (length ss) (records ws))) refl (broken ws n) refl
   where
     go : (a : Bool) → either (ltb (records ws) n) (ltb (length ss) (records ws)) ≡ a → (b : Found) → broken ws n ≡ b → ⊥
-    go true x b y = let z : _≡_ {A = ℕ} 4 0 = rw (x, refusal) at e in omega arith
-    go false x (At r) y = let z : _≡_ {A = ℕ} 5 0 = rw (x, refusal, y) at e in omega arith
-    go false x Nowhere y = let z : _≡_ {A = ℕ} 10 0 = rw (x, refusal, y) at e in omega arith
+    go true x b y = let z : refusing NoRoom .answer ≡ 0 = rw (x, refusal) at e in omega arith
+    go false x (At r) y = let z : refusing (Broken r) .answer ≡ 0 = rw (x, refusal, y) at e in omega arith
+    go false x Nowhere y = let z : refusing NoHole .answer ≡ 0 = rw (x, refusal, y) at e in omega arith
 
 asked : (ws ss qs os : List ℕ) (n h : ℕ) → show ws ss qs os n h .behind .said .answer ≡ 0 → both (ltb h n) (has ws h HO) ≡ true
 unfolding show

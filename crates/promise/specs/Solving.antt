@@ -9,6 +9,7 @@ use Rattle.rules.specs.declared.Failure.{Failure}
 use Rattle.rules.specs.declared.Failure.the-variants.{Clash, Escape, Occurs, QueueFull, TableFull}
 use Rattle.rules.specs.declared.Found.the-variants.{At, Nowhere}
 use Rattle.rules.specs.declared.Refused.{Refused}
+use Rattle.rules.specs.declared.Refused.the-variants.{NoRoom, Broken, IllTyped, NoPattern}
 use Rattle.rules.specs.Answers.{number, reply, refusing, records, pairs}
 use Rattle.rules.specs.Store.{Store, Out, goes, fails, spent}
 use Rattle.rules.specs.Machine.{Pair, machine}
@@ -103,9 +104,9 @@ admitted-means ws ss qs n a = go (machine (records ws) (pairs qs) n (start ws ss
     })
 
 -- answers 4 to 7
-refused-means : (ws : List ℕ) (n k p : ℕ) (ts ss qs : List ℕ) → 4 ≤ k → k ≤ 7 → (6 ≤ k → TypedPatterns ws n → ⊥)
-    → Means ws n (record { table = ts; solutions = ss; queue = qs; said = reply k p 0 })
-refused-means ws n k p ts ss qs a b c = record {
+refused-means : (ws : List ℕ) (n : ℕ) (why : Refused) (ts ss qs : List ℕ) → 4 ≤ refusing why .answer → refusing why .answer ≤ 7
+    → (6 ≤ refusing why .answer → TypedPatterns ws n → ⊥) → Means ws n (record { table = ts; solutions = ss; queue = qs; said = refusing why })
+refused-means ws n why ts ss qs a b c = record {
   solved = λ x. absurd (omega arith);
   refuted = λ x y. absurd (omega arith);
   refused = λ x y. c x;
@@ -118,10 +119,10 @@ solve-means ws ss qs n = go (refusal-is ws ss n)
   where
     go : {o : Refusal} → Refuses ws ss n o → Means ws n (leaves o ws ss qs n)
     go (admits a) = admitted-means ws ss qs n a
-    go short = refused-means ws n 4 0 ws ss qs (omega arith) (omega arith) (λ x. absurd (omega arith))
-    go (breaks {r}) = refused-means ws n 5 r ws ss qs (omega arith) (omega arith) (λ x. absurd (omega arith))
-    go (ill {r} h g e) = refused-means ws n 6 r ws ss qs (omega arith) (omega arith) (λ _ t. found-not r (sym e ∙ typed-nowhere ws n g h t))
-    go (offends {r} h g e k) = refused-means ws n 7 r ws ss qs (omega arith) (omega arith) (λ _ t. k (sym e ∙ typed-clean ws n g h t))
+    go short = refused-means ws n NoRoom ws ss qs (omega arith) (omega arith) (λ x. absurd (omega arith))
+    go (breaks {r}) = refused-means ws n (Broken r) ws ss qs (omega arith) (omega arith) (λ x. absurd (omega arith))
+    go (ill {r} h g e) = refused-means ws n (IllTyped r) ws ss qs (omega arith) (omega arith) (λ _ t. found-not r (sym e ∙ typed-nowhere ws n g h t))
+    go (offends {r} h g e k) = refused-means ws n (NoPattern r) ws ss qs (omega arith) (omega arith) (λ _ t. k (sym e ∙ typed-clean ws n g h t))
 
 -- what solving leaves behind with answer 0
 abbrev pub behind : Store → List ℕ → Behind

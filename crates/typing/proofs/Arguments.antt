@@ -1,5 +1,5 @@
 -- An argument list, turn by turn: what is left of it and of what it is held to, after the first arguments have passed.
-use Prim.Native.Nat.{ℕ, _+_, _*_, _<_, _≤_, min}
+use Prim.Native.Nat.{ℕ, _+_, _*_, _-_, _<_, _≤_, min}
 use mathlib.Core.Path.{_≡_, refl, sym, _∙_}
 use mathlib.Core.List.{List, [], _∷_}
 use mathlib.Core.Bool.{Bool, true, false, not}
@@ -12,7 +12,7 @@ use Rattle.table.specs.declared.Record.{Record}
 use Rattle.table.specs.Reading.{IsRecord}
 use Rattle.rules.specs.Lists.{both, each, enough}
 use Rattle.rules.specs.Words.{NONE, AR, tag, isType, isTerm}
-use Rattle.rules.specs.Typing.{fills, checks}
+use Rattle.rules.specs.Typing.{domains, fills, checks}
 use Rattle.rules.specs.Pattern.{offence}
 use Rattle.laws.specs.Tests.{false-true, both-no}
 use Rattle.laws.specs.Lists.{size, size-real, elements-none}
@@ -20,8 +20,8 @@ use Rattle.laws.specs.Places.{TypeAt, ListAt, placed-inside, domain-at, result-
 use Rattle.typing.specs.declared.Checked.the-variants.{Fails, ButLast}
 use Rattle.typing.specs.Stack.{binders}
 use Rattle.typing.specs.Offences.{among-terms}
-use Rattle.typing.specs.Asks.{named, applies, alone, filled, TermAsks, ArgsAsk, Told, Leaves}
-use Rattle.typing.proofs.Heads.{final-arrow, domains-arrow, domains-base, both-yes}
+use Rattle.typing.specs.Asks.{named, takes, filled, TermAsks, ArgsAsk, ListAsks, Told, Leaves}
+use Rattle.typing.proofs.Heads.{domains-arrow, asks-arrow}
 use Rattle.typing.proofs.Bare.{named-fills, other-fills, named-bare}
 use Rattle.typing.proofs.Occurrences.{among-end, among-cell, bare-offence}
 
@@ -106,87 +106,121 @@ module _ (Held : ℕ → Type 0) (so : ℕ → ℕ → Bool) (ws st₀ : List �
 
 -- Held to a head's type
 
-both-swap : (a b c : Bool) → both a (both b c) ≡ both b (both a c)
+both-yes : (a : Bool) → both a true ≡ a
 unfolding both
-both-swap true b c = refl
-both-swap false b c = sym (both-no b)
+both-yes true = refl
+both-yes false = refl
 
 each-none : (ok : ℕ → ℕ → Bool) (ys : List ℕ) → each ok [] ys ≡ eqb (length ys) 0
 unfolding each
 each-none ok [] = refl
 each-none ok (y ∷ ys) = sym (ne-eqb (length (y ∷ ys)) 0 (λ q. omega arith))
 
-applies-alone : (ws ctx : List ℕ) (ty l head : ℕ) → l ≡ NONE → applies ws ctx ty l head ≡ alone ws ty head
-unfolding applies alone
-applies-alone ws ctx ty l head n = rw (elements-none ws l n, each-none)
+each-more : (ok : ℕ → ℕ → Bool) (x : ℕ) (xs ys : List ℕ) → length ys ≡ 0 → each ok (x ∷ xs) ys ≡ false
+unfolding each
+each-more ok x xs [] e = refl
+each-more ok x xs (y ∷ ys) e = absurd (omega arith)
 
-pub no-arguments : (ws st : List ℕ) (low d l head ty : ℕ) (b : Bool) → low ≤ NONE → l ≡ NONE → b ≡ alone ws ty head
-    → Told d (applies ws (binders st d) ty l head) (among-terms ws l) st low st low b
-no-arguments ws st low d l head ty b few n q =
-    let none = among-end ws l n in
-    record { says = q ∙ sym (applies-alone ws (binders st d) ty l head n); keeps = refl; lowest = λ t. omega arith }
+-- no list at all is taken where no argument is asked
+pub takes-none : (ws ctx : List ℕ) (l head : ℕ) → l ≡ NONE → takes ws ctx l head ≡ eqb (length (domains enough ws head)) 0
+unfolding takes
+takes-none ws ctx l head n = rw (elements-none ws l n, each-none)
 
-module _ (ws st₀ : List ℕ) (low₀ d l head ty : ℕ) (st : List ℕ) (low list rest : ℕ) (p : Passed (TypeAt ws) (applies ws (binders st₀ d) ty) ws st₀ low₀ d l head st low list rest) where
+-- where none is asked no other list is
+pub takes-more : (ws ctx : List ℕ) (l head : ℕ) → ListAt (isTerm ws) ws l → (l ≡ NONE → ⊥) → length (domains enough ws head) ≡ 0 → takes ws ctx l head ≡ false
+unfolding takes
+takes-more ws ctx l head p z e = rw (term-cell ws l p z .reads) (each-more _ _ _ _ e)
+
+-- the first arguments have passed, and a cell and an arrow are left; so many arguments are still asked
+pub record Counting (ws st₀ : List ℕ) (low₀ d l head : ℕ) (st : List ℕ) (low list rest left : ℕ) : Type 0 where
+  pub passed : Passed (TypeAt ws) (takes ws (binders st₀ d)) ws st₀ low₀ d l head st low list rest
+  pub some : list ≡ NONE → ⊥
+  pub counted : left ≡ length (domains enough ws rest)
+  pub more : left ≡ 0 → ⊥
+
+pub counting-first : (ws st : List ℕ) (low d l head count : ℕ) → ListAsks ws st low d l head count → Counting ws st low d l head st low l head count
+counting-first ws st low d l head count a = record { passed = passed-none _ _ _ _ _ _ _ _ (a .asks); some = a .some; counted = a .counted; more = a .more }
+
+module _ {ws st₀ : List ℕ} {low₀ d l head : ℕ} {st : List ℕ} {low list rest left : ℕ} (p : Counting ws st₀ low₀ d l head st low list rest left) where
   pub head-inside : 4 * rest + 3 < length ws
-  head-inside = placed-inside _ ws rest (p .held)
+  head-inside = placed-inside _ ws rest (p .passed .held)
 
-  stops : (st₁ : List ℕ) (low₁ : ℕ) → binders st₁ d ≡ binders st d → applies ws (binders st₀ d) ty list rest ≡ false → Leaves ws st₀ low₀ d l head ty st₁ low₁ Fails
+  pub list-inside : 4 * list + 3 < length ws
+  list-inside = cell-inside _ _ _ _ _ _ _ _ _ _ _ _ (p .passed) (p .some)
+
+  pub left-some : 1 ≤ left
+  left-some = let z = p .more in omega arith
+
+  arrow : tag ws rest ≡ AR
+  arrow = asks-arrow ws rest (p .passed .held) (λ e. p .more (p .counted ∙ e))
+
+  stops : (st₁ : List ℕ) (low₁ : ℕ) → binders st₁ d ≡ binders st d → takes ws (binders st₀ d) list rest ≡ false → Leaves ws st₀ low₀ d l head st₁ low₁ Fails
   unfolding Leaves
-  stops st₁ low₁ k e = (p .same ∙ e, k ∙ p .keeps)
+  stops st₁ low₁ k e = (p .passed .same ∙ e, k ∙ p .passed .keeps)
 
-  module _ (z : list ≡ NONE → ⊥) (t : Record) (i : IsRecord ws rest t) where
-    pub too-many : (t .tag ≡ AR → ⊥) → Leaves ws st₀ low₀ d l head ty st low Fails
-    unfolding applies each
-    too-many n = stops st low refl (rw (term-cell ws list (p .left) z .reads, domains-base ws rest (p .held) (λ q. n (i .tag-is ∙ q))) (both-no _))
+  module _ {t cell : Record} (i : IsRecord ws rest t) (e : IsRecord ws list cell) where
+    pub domain-type : TypeAt ws (t .a)
+    domain-type = rw (i .a-is) (domain-at ws rest (p .passed .held) arrow)
 
-    module _ (k : t .tag ≡ AR) where
-      pub domain-type : TypeAt ws (t .a)
-      domain-type = rw (i .a-is) (domain-at ws rest (p .held) (sym (i .tag-is) ∙ k))
+    result-type : TypeAt ws (t .b)
+    result-type = rw (i .b-is) (result-at ws rest (p .passed .held) arrow)
 
-      pub result-type : TypeAt ws (t .b)
-      result-type = rw (i .b-is) (result-at ws rest (p .held) (sym (i .tag-is) ∙ k))
+    -- one argument less is asked of the rest
+    fewer : left - 1 ≡ length (domains enough ws (t .b))
+    fewer = let c = rw (domains-arrow ws rest (p .passed .held) arrow, ← i .b-is) at (p .counted) in omega arith
 
-      module _ (cell : Record) (e : IsRecord ws list cell) where
-        turn : applies ws (binders st₀ d) ty list rest ≡ both (checks enough ws (binders st₀ d) (cell .a) (t .a)) (applies ws (binders st₀ d) ty (cell .b) (t .b))
-        unfolding applies each
-        turn =
-            let arrow = sym (i .tag-is) ∙ k in
-            rw (term-cell ws list (p .left) z .reads, domains-arrow ws rest (p .held) arrow, final-arrow ws rest (p .held) arrow, e .a-is, e .b-is, i .a-is, i .b-is) (both-swap _ _ _)
+    turn : takes ws (binders st₀ d) list rest ≡ both (checks enough ws (binders st₀ d) (cell .a) (t .a)) (takes ws (binders st₀ d) (cell .b) (t .b))
+    unfolding takes each
+    turn = rw (term-cell ws list (p .passed .left) (p .some) .reads, domains-arrow ws rest (p .passed .held) arrow, e .a-is, e .b-is, i .a-is, i .b-is)
 
-        module _ (n : cell .b ≡ NONE) (b : Bool) (q : b ≡ alone ws ty (t .b)) where
-          last-turn : applies ws (binders st₀ d) ty list rest ≡ both (checks enough ws (binders st₀ d) (cell .a) (t .a)) b
-          last-turn = turn ∙ rw (applies-alone ws (binders st₀ d) ty (cell .b) (t .b) n, ← q)
+    rest-list : ListAt (isTerm ws) ws (cell .b)
+    rest-list = rw (e .b-is) (term-cell ws list (p .passed .left) (p .some) .rest)
 
-          pub last-remains : not b ≡ false → Leaves ws st₀ low₀ d l head ty st low (ButLast (cell .a) (t .a))
-          unfolding Leaves
-          last-remains y =
-              let none = among-end ws (cell .b) n in
-              let asks = element-asks _ _ _ _ _ _ _ _ _ _ _ _ p z cell e (t .a) domain-type in
-              let less = element-less _ _ _ _ _ _ _ _ _ _ _ _ p z cell e _ refl in
-              let few = p .few in
-              let lowest = p .lowest in
-              let one = one-cell _ _ _ _ _ _ _ _ _ _ _ _ p z cell e in
-              record {
-                asks = asks;
-                lower = omega arith;
-                keeps = p .keeps;
-                same = p .same ∙ last-turn ∙ rw (not-false b y, both-yes, p .keeps);
-                lowest = omega arith;
-              }
+    pub too-many : left - 1 ≡ 0 → (cell .b ≡ NONE → ⊥) → Leaves ws st₀ low₀ d l head st low Fails
+    too-many z n = stops st low refl (turn ∙ rw (takes-more ws (binders st₀ d) (cell .b) (t .b) rest-list n (sym fewer ∙ z)) (both-no _))
 
-          pub last-ends : not b ≡ true → Leaves ws st₀ low₀ d l head ty st low Fails
-          last-ends y = stops st low refl (last-turn ∙ rw (not-true b y) (both-no _))
+    pub too-short : (left - 1 ≡ 0 → ⊥) → cell .b ≡ NONE → Leaves ws st₀ low₀ d l head st low Fails
+    too-short z n = stops st low refl (turn ∙ rw (takes-none ws (binders st₀ d) (cell .b) (t .b) n, ← fewer, ne-eqb _ _ z) (both-no _))
 
-        module _ (st₁ : List ℕ) (low₁ : ℕ) (b : Bool) (h : Told d (checks enough ws (binders st d) (cell .a) (t .a)) (offence enough ws (cell .a)) st low st₁ low₁ b) where
-          pub argument-fails : not b ≡ true → Leaves ws st₀ low₀ d l head ty st₁ low₁ Fails
-          unfolding both
-          argument-fails f = stops st₁ low₁ (h .keeps) (turn ∙ rw (← p .keeps, ← h .says, not-true b f))
+    pub last-remains : left - 1 ≡ 0 → cell .b ≡ NONE → Leaves ws st₀ low₀ d l head st low (ButLast (cell .a) (t .a))
+    unfolding Leaves
+    last-remains z n =
+        let none = among-end ws (cell .b) n in
+        let less = element-less _ _ _ _ _ _ _ _ _ _ _ _ (p .passed) (p .some) cell e _ refl in
+        let few = p .passed .few in
+        let lowest = p .passed .lowest in
+        let one = one-cell _ _ _ _ _ _ _ _ _ _ _ _ (p .passed) (p .some) cell e in
+        record {
+          asks = element-asks _ _ _ _ _ _ _ _ _ _ _ _ (p .passed) (p .some) cell e (t .a) domain-type;
+          lower = omega arith;
+          keeps = p .passed .keeps;
+          same = p .passed .same ∙ turn ∙ rw (takes-none ws (binders st₀ d) (cell .b) (t .b) n, ← fewer, eq-eqb _ _ z, both-yes, p .passed .keeps);
+          lowest = omega arith;
+        }
 
-          pub argument-checks : length st₁ ≡ length st → not b ≡ false → Passed (TypeAt ws) (applies ws (binders st₀ d) ty) ws st₀ low₀ d l head st₁ low₁ (cell .b) (t .b)
-          unfolding both
-          argument-checks n f =
-              passed-on _ _ _ _ _ _ _ _ _ _ _ _ p z cell e (t .b) st₁ low₁ result-type
-              (turn ∙ rw (← p .keeps, ← h .says, not-false b f)) n (h .keeps) (h .lowest (not-false _ f))
+    pub argument-asks : TermAsks ws st low d (cell .a) (t .a)
+    argument-asks = element-asks _ _ _ _ _ _ _ _ _ _ _ _ (p .passed) (p .some) cell e (t .a) domain-type
+
+    pub argument-less : (k : ℕ) → 2 * size l ≡ k → 2 * (cell .a) + 2 < k
+    argument-less k h = element-less _ _ _ _ _ _ _ _ _ _ _ _ (p .passed) (p .some) cell e k h
+
+    pub cells-less : size (cell .b) < size list
+    cells-less = rest-less _ _ _ _ _ _ _ _ _ _ _ _ (p .passed) (p .some) cell e
+
+    module _ {st₁ : List ℕ} {low₁ : ℕ} {b : Bool} (h : Told d (checks enough ws (binders st d) (cell .a) (t .a)) (offence enough ws (cell .a)) st low st₁ low₁ b) where
+      pub argument-fails : not b ≡ true → Leaves ws st₀ low₀ d l head st₁ low₁ Fails
+      unfolding both
+      argument-fails f = stops st₁ low₁ (h .keeps) (turn ∙ rw (← p .passed .keeps, ← h .says, not-true b f))
+
+      pub argument-checks : length st₁ ≡ length st → (left - 1 ≡ 0 → ⊥) → (cell .b ≡ NONE → ⊥) → not b ≡ false → Counting ws st₀ low₀ d l head st₁ low₁ (cell .b) (t .b) (left - 1)
+      unfolding both
+      argument-checks n z m f = record {
+        passed = passed-on _ _ _ _ _ _ _ _ _ _ _ _ (p .passed) (p .some) cell e (t .b) st₁ low₁ result-type
+            (turn ∙ rw (← p .passed .keeps, ← h .says, not-false b f)) n (h .keeps) (h .lowest (not-false _ f));
+        some = m;
+        counted = fewer;
+        more = z;
+      }
 
 -- Held to a context
 

@@ -1,27 +1,24 @@
 -- Final types, domains and the types of heads, as they are read.
-use Prim.Native.Nat.{ℕ, _+_, _-_, _<_, _≤_}
+use Prim.Native.Nat.{ℕ, _+_, _*_, _-_, _<_, _≤_}
 use mathlib.Core.Path.{_≡_, refl, sym, ap, _∙_}
 use mathlib.Core.List.{List, [], _∷_}
-use mathlib.Core.Bool.{Bool, true, false}
 use native.Mathlib.Omega.{arith}
-use native.Mathlib.Decide.{decLt}
+use native.Mathlib.Decide.{decLt, ℕ-discrete}
 use borrow.Author.Tests.{eq-eqb, ne-eqb}
 use lib.ListN.{length, getD, take}
 use lib.Seq.{take-all}
-use lib.Dec.{eqb}
 use Rattle.table.specs.declared.Record.{Record}
 use Rattle.table.specs.Reading.{IsRecord}
 use Rattle.rules.specs.declared.Found.{Found}
 use Rattle.rules.specs.declared.Found.the-variants.{At, Nowhere}
-use Rattle.rules.specs.Lists.{both, enough}
+use Rattle.rules.specs.Lists.{enough}
 use Rattle.rules.specs.Words.{AR, VA, tag, fieldA, fieldB, has}
 use Rattle.rules.specs.Typing.{finalType, domains}
-use Rattle.laws.specs.Tests.{both-no}
 use Rattle.laws.specs.Unrolled.{final-unrolled, domains-unrolled}
-use Rattle.laws.specs.Places.{TypeAt, placed-few, result-at, result-low}
+use Rattle.laws.specs.Places.{TypeAt, placed-inside, placed-few, result-at, result-low}
 use Rattle.typing.specs.declared.Final.{Final}
 use Rattle.typing.specs.Stack.{typeOf, type-bound, type-free}
-use Rattle.typing.specs.Asks.{alone, headType, IsFinal}
+use Rattle.typing.specs.Asks.{headType, IsFinal}
 
 -- the table as it is lent on: the part that starts at its first word
 abbrev whole : List ℕ → List ℕ
@@ -31,7 +28,7 @@ all : (ws : List ℕ) → whole ws ≡ ws
 all ws = take-all (length ws - 0) ws (omega arith)
 
 module _ (ws : List ℕ) (ty : ℕ) (p : TypeAt ws ty) where
-  pub final-arrow : tag ws ty ≡ AR → finalType enough ws ty ≡ finalType enough ws (fieldB ws ty)
+  final-arrow : tag ws ty ≡ AR → finalType enough ws ty ≡ finalType enough ws (fieldB ws ty)
   unfolding has
   final-arrow e = final-unrolled ws (p .top) (p .legal) ty (p .low) ∙ rw e
 
@@ -39,7 +36,7 @@ module _ (ws : List ℕ) (ty : ℕ) (p : TypeAt ws ty) where
   unfolding has
   domains-arrow e = domains-unrolled ws (p .top) (p .legal) ty (p .low) ∙ rw e
 
-  pub domains-base : (tag ws ty ≡ AR → ⊥) → domains enough ws ty ≡ []
+  domains-base : (tag ws ty ≡ AR → ⊥) → domains enough ws ty ≡ []
   unfolding has
   domains-base z = domains-unrolled ws (p .top) (p .legal) ty (p .low) ∙ rw (ne-eqb _ _ z)
 
@@ -56,41 +53,55 @@ module _ (ws : List ℕ) (ty : ℕ) (p : TypeAt ws ty) where
       arrow : tag ws ty ≡ AR
       arrow = sym (j .tag-is) ∙ e
 
-      pub result-less : x .b < ty
+      result-less : x .b < ty
       result-less = rw (j .b-is) (result-low ws ty p arrow)
 
-      pub result-type : TypeAt (whole ws) (x .b)
-      result-type = rw (all ws, j .b-is) (result-at ws ty p arrow)
+      result-type : TypeAt ws (x .b)
+      result-type = rw (j .b-is) (result-at ws ty p arrow)
 
-      module _ (f : Final) (i : IsFinal (whole ws) (x .b) f) where
+      final-more : (f : Final) → IsFinal ws (x .b) f → IsFinal ws ty (record { base = f .base; count = f .count + 1 })
+      final-more f i =
+          let lo = result-less in
+          let few = i .few in
+          let n = i .count-is in
+          record {
+            base-is = i .base-is ∙ rw (j .b-is, final-arrow arrow);
+            count-is = rw (domains-arrow arrow, ← j .b-is) (omega arith);
+            few = omega arith;
+          }
+
+-- a type that asks arguments is an arrow
+pub asks-arrow : (ws : List ℕ) (ty : ℕ) → TypeAt ws ty → (length (domains enough ws ty) ≡ 0 → ⊥) → tag ws ty ≡ AR
+asks-arrow ws ty p z = go (ℕ-discrete (tag ws ty) AR)
+  where
+    go : Dec (tag ws ty ≡ AR) → tag ws ty ≡ AR
+    go (yes e) = e
+    go (no n) = absurd (z (rw (domains-base ws ty p n)))
+
+-- two arrows, one after the other
+module _ (ws : List ℕ) (ty : ℕ) (p : TypeAt ws ty) (x : Record) (j : IsRecord ws ty x) (e : x .tag ≡ AR) where
+  pub result-inside : 4 * (x .b) + 3 < length ws
+  result-inside = placed-inside _ ws _ (result-type ws ty p x j e)
+
+  module _ (y : Record) (k : IsRecord ws (x .b) y) where
+    pub final-one : (y .tag ≡ AR → ⊥) → IsFinal ws ty (record { base = x .b; count = 1 })
+    final-one z = final-more ws ty p x j e _ (final-here ws (x .b) (result-type ws ty p x j e) y k z)
+
+    module _ (d : y .tag ≡ AR) where
+      pub second-less : y .b < ty
+      second-less = let a = result-less ws ty p x j e in let b = result-less ws (x .b) (result-type ws ty p x j e) y k d in omega arith
+
+      pub second-type : TypeAt (whole ws) (y .b)
+      second-type = rw (all ws) (result-type ws (x .b) (result-type ws ty p x j e) y k d)
+
+      module _ (f : Final) (i : IsFinal (whole ws) (y .b) f) where
         pub final-room : f .count < 4096
-        final-room = let few = i .few in let lo = result-less in let top = placed-few _ ws ty p in omega arith
+        final-room = let few = i .few in let lo = second-less in let top = placed-few _ ws ty p in omega arith
 
-        pub final-more : IsFinal ws ty (record { base = f .base; count = f .count + 1 })
-        final-more =
-            let lo = result-less in
-            let few = i .few in
-            let n = rw (all ws) at (i .count-is) in
-            record {
-              base-is = i .base-is ∙ rw (all ws, j .b-is, final-arrow arrow);
-              count-is = rw (domains-arrow arrow, ← j .b-is) (omega arith);
-              few = omega arith;
-            }
-
-pub both-yes : (a : Bool) → both a true ≡ a
-unfolding both
-both-yes true = refl
-both-yes false = refl
-
--- a head of type ty without arguments
-module _ (ws : List ℕ) (head ty : ℕ) (f : Final) (i : IsFinal ws head f) where
-  pub asks-more : (f .count ≡ 0 → ⊥) → false ≡ alone ws ty head
-  unfolding alone
-  asks-more z = rw (← i .count-is, ne-eqb _ _ z) (sym (both-no _))
-
-  pub asks-none : f .count ≡ 0 → eqb (f .base) ty ≡ alone ws ty head
-  unfolding alone
-  asks-none z = rw (← i .count-is, eq-eqb _ _ z, i .base-is) (sym (both-yes _))
+        pub final-two : IsFinal ws ty (record { base = f .base; count = f .count + 2 })
+        final-two =
+            let q : f .count + 1 + 1 ≡ f .count + 2 = omega arith in
+            rw q at (final-more ws ty p x j e _ (final-more ws (x .b) (result-type ws ty p x j e) y k d f (rw (all ws) at i)))
 
 -- a rigid head's type is its variable's, or its constant's
 module _ (ws ctx : List ℕ) (x : Record) where

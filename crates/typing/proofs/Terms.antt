@@ -2,18 +2,20 @@
 use Prim.Native.Nat.{ℕ, _+_, _*_, _<_, _≤_, min}
 use mathlib.Core.Path.{_≡_, refl, sym, _∙_}
 use mathlib.Core.List.{List}
-use mathlib.Core.Bool.{Bool, false}
+use mathlib.Core.Bool.{Bool, true, false}
 use mathlib.Core.Logic.{_⊎_, inl, inr}
 use native.Mathlib.Omega.{arith}
+use native.Mathlib.Decide.{ℕ-discrete}
 use borrow.Author.Tests.{eq-eqb, ne-eqb, lt-ltb, le-ltb}
 use lib.ListN.{length}
+use lib.Dec.{eqb}
 use Rattle.table.specs.declared.Record.{Record}
 use Rattle.table.specs.Reading.{IsRecord}
 use Rattle.rules.specs.declared.Found.{Found}
 use Rattle.rules.specs.declared.Found.the-variants.{At, Nowhere}
 use Rattle.rules.specs.Lists.{both, enough}
 use Rattle.rules.specs.Words.{NONE, LA, CA, VA, HA, tag, fieldA, fieldB, has, isType, isTerm, arguments}
-use Rattle.rules.specs.Typing.{applied, checkTerm, checks}
+use Rattle.rules.specs.Typing.{finalType, applied, checkTerm, checks}
 use Rattle.rules.specs.Pattern.{offence}
 use Rattle.laws.specs.Tests.{false-true}
 use Rattle.laws.specs.Lists.{size}
@@ -22,14 +24,15 @@ use Rattle.laws.specs.Forms.{is-lambda, is-constant, is-variable, is-hole, term
 use Rattle.laws.specs.Unrolled.{checks-unrolled}
 use Rattle.laws.specs.Places.{TypeAt, ListAt, placed-inside, domain-at, result-at, body-at, arguments-at, constant-at, constant-inside, hole-at, context-at}
 use Rattle.patterns.specs.Occurrences.{occurrence}
+use Rattle.typing.specs.declared.Final.{Final}
 use Rattle.typing.specs.declared.Checked.{Checked}
 use Rattle.typing.specs.declared.Checked.the-variants.{Fails, ButLast}
 use Rattle.typing.specs.Stack.{binders, typeOf, binders-pop}
 use Rattle.typing.specs.Offences.{among-terms}
-use Rattle.typing.specs.Asks.{applies, alone, headType, filled, Bound, Binds, TermAsks, ArgsAsk, Told, Remains, Leaves}
+use Rattle.typing.specs.Asks.{takes, headType, filled, IsFinal, Bound, Binds, TermAsks, ArgsAsk, ListAsks, Told, Remains, Leaves}
 use Rattle.typing.proofs.Heads.{head-variable, head-constant, type-found, type-missing}
-use Rattle.typing.proofs.Arguments.{no-arguments}
-use Rattle.typing.proofs.Occurrences.{lambda-offence, constant-offence, variable-offence, hole-offence}
+use Rattle.typing.proofs.Arguments.{takes-none, takes-more}
+use Rattle.typing.proofs.Occurrences.{among-end, lambda-offence, constant-offence, variable-offence, hole-offence}
 
 -- the term in hand: its check is the check asked, the first d₀ binders stay where the first d do, and the lowest offending occurrence of the
 -- whole is that of what is passed and of what is within
@@ -40,6 +43,15 @@ pub record InHand (ws st₀ : List ℕ) (low₀ d₀ r ty : ℕ) (st : List ℕ)
   pub keeps : (e : List ℕ) → binders e d ≡ binders st d → binders e d₀ ≡ binders st₀ d₀
   pub same : checks enough ws (binders st₀ d₀) r ty ≡ checks enough ws (binders st d) term at
   pub lowest : min low₀ (offence enough ws r) ≡ min low (offence enough ws term)
+
+-- the term in hand has a rigid head, x, of type h
+pub record Headed (ws st₀ : List ℕ) (low₀ d₀ r ty : ℕ) (st : List ℕ) (low d at term : ℕ) (x : Record) (h : ℕ) : Type 0 where
+  pub hand : InHand ws st₀ low₀ d₀ r ty st low d at term
+  pub type : TypeAt ws h
+  pub asks : ArgsAsk (TypeAt ws) ws st low d (x .b) h
+  pub less : size (x .b) < term + 1
+  pub check : checkTerm (checks enough ws) ws (binders st d) term at ≡ both (eqb (finalType enough ws h) at) (takes ws (binders st d) (x .b) h)
+  pub offends : offence enough ws term ≡ among-terms ws (x .b)
 
 pub hand-first : (ws st : List ℕ) (low d r ty : ℕ) → TermAsks ws st low d r ty → InHand ws st low d r ty st low d ty r
 hand-first ws st low d r ty a = record { asks = a; same-length = refl; lower = omega arith; keeps = λ e q. q; same = refl; lowest = refl }
@@ -133,9 +145,6 @@ module _ {ws st₀ : List ℕ} {low₀ d₀ r ty : ℕ} {st : List ℕ} {low d a
       list-less : size (x .b) < term + 1
       list-less = rw (j .b-is) (listed .0)
 
-      pub arguments-less : (k : ℕ) → 2 * r + 2 ≡ k → 2 * size (x .b) < k
-      arguments-less k h = let s = list-less in let low = p .lower in omega arith
-
       arguments-ask : (Held : ℕ → Type 0) (h now : ℕ) → Held h → now ≤ low → ArgsAsk Held ws st now d (x .b) h
       arguments-ask Held h now q le =
           let few = p .asks .few in
@@ -205,46 +214,79 @@ module _ {ws st₀ : List ℕ} {low₀ d₀ r ty : ℕ} {st : List ℕ} {low d a
             go (inr e) = let w : _≡_ {A = ℕ} 0 1 = cc (constant-type e) in absurd (omega arith)
 
         module _ {h : ℕ} (n : f ≡ At h) where
-          rigid-check : (TypeAt ws h) × (here ≡ applies ws (binders st d) at (x .b) h)
-          unfolding applied applies arguments both
-          rigid-check = go rigid
+          pub headed : Headed ws st₀ low₀ d₀ r ty st low d at term x h
+          unfolding applied takes arguments both
+          headed = go rigid
             where
-              go : (tag ws term ≡ VA) ⊎ (tag ws term ≡ CA) → (TypeAt ws h) × (here ≡ applies ws (binders st d) at (x .b) h)
+              made : TypeAt ws h → here ≡ both (eqb (finalType enough ws h) at) (takes ws (binders st d) (x .b) h) → Headed ws st₀ low₀ d₀ r ty st low d at term x h
+              made t c = record { hand = p; type = t; asks = arguments-ask z (TypeAt ws) h low t (omega arith); less = list-less z; check = c; offends = rigid-offence }
+
+              go : (tag ws term ≡ VA) ⊎ (tag ws term ≡ CA) → Headed ws st₀ low₀ d₀ r ty st low d at term x h
               go (inl e) =
-                  let found = type-found (binders st d) (x .a) h (variable-type e ∙ sym q ∙ n) in (
-                    rw (found .1) at (every-at (TypeAt ws) (binders st d) (x .a) (found .0) (p .asks .bound)),
-                    check-variable (checks enough ws) ws (binders st d) term at e ∙ rw (← j .a-is, lt-ltb _ _ (found .0), found .1, ← j .b-is),
-                  )
+                  let found = type-found (binders st d) (x .a) h (variable-type e ∙ sym q ∙ n) in
+                  made
+                  (rw (found .1) at (every-at (TypeAt ws) (binders st d) (x .a) (found .0) (p .asks .bound)))
+                  (check-variable (checks enough ws) ws (binders st d) term at e ∙ rw (← j .a-is, lt-ltb _ _ (found .0), found .1, ← j .b-is))
               go (inr e) =
-                  let is : fieldA ws (x .a) ≡ h = cc (constant-type e) in (
-                    rw (← is, j .a-is) (constant-at ws term (p .asks .term) e),
-                    check-constant (checks enough ws) ws (binders st d) term at e ∙ rw (← j .a-is, is, ← j .b-is),
-                  )
+                  let is : fieldA ws (x .a) ≡ h = cc (constant-type e) in
+                  made
+                  (rw (← is, j .a-is) (constant-at ws term (p .asks .term) e))
+                  (check-constant (checks enough ws) ws (binders st d) term at e ∙ rw (← j .a-is, is, ← j .b-is))
 
-          pub head-asks : ArgsAsk (TypeAt ws) ws st low d (x .b) h
-          head-asks = arguments-ask z (TypeAt ws) h low (rigid-check .0) (omega arith)
+-- What a rigid head's final type decides
 
-          pub head-type : TypeAt ws h
-          head-type = rigid-check .0
+module _ {ws st₀ : List ℕ} {low₀ d₀ r ty : ℕ} {st : List ℕ} {low d at term : ℕ} {x : Record} {h : ℕ} (g : Headed ws st₀ low₀ d₀ r ty st low d at term x h) where
+  pub head-type : TypeAt ws h
+  head-type = g .type
 
-          pub head-alone : (b : Bool) → x .b ≡ NONE → b ≡ alone ws at h → Tells st low b
-          head-alone b e s = answers _ b _ low st (rigid-check .1) rigid-offence (no-arguments ws st low d (x .b) h at b (p .asks .few) e s)
+  pub arguments-less : (k : ℕ) → 2 * r + 2 ≡ k → 2 * size (x .b) < k
+  arguments-less k e = let s = g .less in let low = g .hand .lower in omega arith
 
-          module _ (st₁ : List ℕ) (low₁ : ℕ) (o : Checked) (v : Leaves ws st low d (x .b) h at st₁ low₁ o) where
-            pub head-fails : o ≡ Fails → Tells st₁ low₁ false
+  module _ {f : Final} (i : IsFinal ws h f) where
+    pub other-base : (f .base ≡ at → ⊥) → Tells (g .hand) st low false
+    unfolding both
+    other-base z = refuses (g .hand) (g .check ∙ rw (← i .base-is, ne-eqb _ _ z))
+
+    module _ (b : f .base ≡ at) where
+      taking : checkTerm (checks enough ws) ws (binders st d) term at ≡ takes ws (binders st d) (x .b) h
+      unfolding both
+      taking = g .check ∙ rw (← i .base-is, eq-eqb _ _ b)
+
+      pub none-asked : f .count ≡ 0 → Tells (g .hand) st low (eqb (x .b) NONE)
+      none-asked z = go (ℕ-discrete (x .b) NONE)
+        where
+          few : low ≤ NONE
+          few = g .hand .asks .few
+
+          go : Dec (x .b ≡ NONE) → Tells (g .hand) st low (eqb (x .b) NONE)
+          go (yes e) =
+              let none = among-end ws (x .b) e in
+              rw (eq-eqb _ _ e)
+              (answers (g .hand) true true (among-terms ws (x .b)) low st (taking ∙ rw (takes-none ws (binders st d) (x .b) h e, ← i .count-is, eq-eqb _ _ z)) (g .offends)
+              (record { says = refl; keeps = refl; lowest = λ t. omega arith }))
+          go (no e) = rw (ne-eqb _ _ e) (refuses (g .hand) (taking ∙ takes-more ws (binders st d) (x .b) h (g .asks .list) e (sym (i .count-is) ∙ z)))
+
+      module _ (z : f .count ≡ 0 → ⊥) where
+        pub none-given : x .b ≡ NONE → Tells (g .hand) st low false
+        none-given e = refuses (g .hand) (taking ∙ rw (takes-none ws (binders st d) (x .b) h e, ← i .count-is, ne-eqb _ _ z))
+
+        pub list-asks : (x .b ≡ NONE → ⊥) → ListAsks ws st low d (x .b) h (f .count)
+        list-asks e = record { asks = g .asks; some = e; counted = i .count-is; more = z }
+
+        module _ (st₁ : List ℕ) (low₁ : ℕ) (o : Checked) (v : Leaves ws st low d (x .b) h st₁ low₁ o) where
+          pub list-fails : o ≡ Fails → Tells (g .hand) st₁ low₁ false
+          unfolding Leaves
+          list-fails e =
+              let w : Leaves ws st low d (x .b) h st₁ low₁ Fails = rw e at v in
+              record { says = sym (one (g .hand) ∙ taking ∙ w .0); keeps = g .hand .keeps st₁ (w .1); lowest = λ t. absurd (false-true t) }
+
+          module _ {t u : ℕ} (e : o ≡ ButLast t u) where
+            left : Remains ws st low d (x .b) h st₁ low₁ t u
             unfolding Leaves
-            head-fails e =
-                let w : Leaves ws st low d (x .b) h at st₁ low₁ Fails = rw e at v in
-                record { says = sym (one ∙ rigid-check .1 ∙ w .0); keeps = p .keeps st₁ (w .1); lowest = λ t. absurd (false-true t) }
+            left = rw e at v
 
-            module _ {t u : ℕ} (e : o ≡ ButLast t u) where
-              left : Remains ws st low d (x .b) h at st₁ low₁ t u
-              unfolding Leaves
-              left = rw e at v
+            pub last-less : t < term
+            last-less = let s = g .less in let l = left .lower in omega arith
 
-              pub last-less : t < term
-              last-less = let s = list-less z in let l = left .lower in omega arith
-
-              pub last-next : length st₁ ≡ length st → InHand ws st₀ low₀ d₀ r ty st₁ low₁ d u t
-              last-next k =
-                  goes-on st₁ low₁ d u t (left .asks) k last-less (λ s w. w ∙ left .keeps) (rigid-check .1 ∙ left .same) (rw rigid-offence (left .lowest))
+            pub last-next : length st₁ ≡ length st → InHand ws st₀ low₀ d₀ r ty st₁ low₁ d u t
+            last-next k = goes-on (g .hand) st₁ low₁ d u t (left .asks) k last-less (λ s w. w ∙ left .keeps) (taking ∙ left .same) (rw (g .offends) (left .lowest))

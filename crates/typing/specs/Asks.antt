@@ -25,13 +25,9 @@ use Rattle.typing.specs.Offences.{sides, among-terms}
 unfoldable pub named : List ℕ → List ℕ → ℕ → ℕ → Bool
 named ws ctx x t = both (bare ws x) (both (ltb (fieldA ws x) (length ctx)) (eqb (getD ctx (fieldA ws x) 0) t))
 
--- a head of this type, applied to list l, has type ty
-unfoldable pub applies : List ℕ → List ℕ → ℕ → ℕ → ℕ → Bool
-applies ws ctx ty l head = both (eqb (finalType enough ws head) ty) (each (checks enough ws ctx) (elements ws l) (domains enough ws head))
-
--- a head of this type has type ty without arguments
-unfoldable pub alone : List ℕ → ℕ → ℕ → Bool
-alone ws ty head = both (eqb (finalType enough ws head) ty) (eqb (length (domains enough ws head)) 0)
+-- a head of this type takes list l: as many arguments as it asks, and each checks
+unfoldable pub takes : List ℕ → List ℕ → ℕ → ℕ → Bool
+takes ws ctx l head = each (checks enough ws ctx) (elements ws l) (domains enough ws head)
 
 -- the type of a rigid head: a bound variable's, or a constant's
 unfoldable pub headType : List ℕ → List ℕ → Record → Found
@@ -75,6 +71,13 @@ pub record ArgsAsk (Held : ℕ → Type 0) (ws st : List ℕ) (low d l x : ℕ) 
   pub room : d + size l ≤ length st
   pub few : low ≤ NONE
 
+-- a list of at least one argument, and how many the head's type asks, which is at least one
+pub record ListAsks (ws st : List ℕ) (low d l head count : ℕ) : Type 0 where
+  pub asks : ArgsAsk (TypeAt ws) ws st low d l head
+  pub some : l ≡ NONE → ⊥
+  pub counted : count ≡ length (domains enough ws head)
+  pub more : count ≡ 0 → ⊥
+
 -- an equation of a legal table, and room for the binders of each term
 pub record EquationAsks (ws st : List ℕ) (low e : ℕ) : Type 0 where
   pub top : ℕ
@@ -105,14 +108,14 @@ pub record Offends (ws : List ℕ) (e low low₁ : ℕ) (b : Bool) : Type 0 wher
 
 -- of list l, after a head of this type, the last argument alone is left to check, at type t; its number is lower than the list's, the first d
 -- binders stay, and the lowest offending occurrence so far counts those within the other arguments
-pub record Remains (ws st : List ℕ) (low d l head ty : ℕ) (st₁ : List ℕ) (low₁ last t : ℕ) : Type 0 where
+pub record Remains (ws st : List ℕ) (low d l head : ℕ) (st₁ : List ℕ) (low₁ last t : ℕ) : Type 0 where
   pub asks : TermAsks ws st₁ low₁ d last t
   pub lower : last + 1 < size l
   pub keeps : binders st₁ d ≡ binders st d
-  pub same : applies ws (binders st d) ty l head ≡ checks enough ws (binders st₁ d) last t
+  pub same : takes ws (binders st d) l head ≡ checks enough ws (binders st₁ d) last t
   pub lowest : min low (among-terms ws l) ≡ min low₁ (offence enough ws last)
 
--- what a check of list l after a head of this type leaves: it does not apply, or the last argument decides
-unfoldable pub Leaves : List ℕ → List ℕ → ℕ → ℕ → ℕ → ℕ → ℕ → List ℕ → ℕ → Checked → Type 0
-Leaves ws st low d l head ty st₁ low₁ Fails = (applies ws (binders st d) ty l head ≡ false) × (binders st₁ d ≡ binders st d)
-Leaves ws st low d l head ty st₁ low₁ (ButLast last t) = Remains ws st low d l head ty st₁ low₁ last t
+-- what a check of list l after a head of this type leaves: the head does not take it, or the last argument decides
+unfoldable pub Leaves : List ℕ → List ℕ → ℕ → ℕ → ℕ → ℕ → List ℕ → ℕ → Checked → Type 0
+Leaves ws st low d l head st₁ low₁ Fails = (takes ws (binders st d) l head ≡ false) × (binders st₁ d ≡ binders st d)
+Leaves ws st low d l head st₁ low₁ (ButLast last t) = Remains ws st low d l head st₁ low₁ last t

@@ -14,13 +14,13 @@ ghost use mathlib.Core.Path.{_≡_};
 ghost use Prim.Native.Nat.{_+_, _*_, _<_, _≤_};
 ghost use lib.ListN.{length};
 ghost use Rattle.rules.specs.Lists.{enough};
-ghost use Rattle.rules.specs.Words.{NONE, VA, HA, tag, isType};
+ghost use Rattle.rules.specs.Words.{VA, HA, tag, isType};
 ghost use Rattle.rules.specs.Typing.{checks};
 ghost use Rattle.rules.specs.Pattern.{offence};
 ghost use Rattle.laws.specs.Places.{TypeAt, ListAt};
 ghost use Rattle.typing.specs.Stack.{binders, typeOf};
 ghost use Rattle.typing.specs.Offences.{among-terms};
-ghost use Rattle.typing.specs.Asks.{named, alone, headType, filled, IsFinal, Binds, TermAsks, ArgsAsk, EquationAsks, JudgeAsks, Told, Offends, Leaves};
+ghost use Rattle.typing.specs.Asks.{named, headType, filled, IsFinal, Binds, TermAsks, ArgsAsk, ListAsks, EquationAsks, JudgeAsks, Told, Offends, Leaves};
 ghost use Rattle.typing.specs.Judging.{Judges};
 
 // A head's final type, and how many arguments it asks.
@@ -42,8 +42,9 @@ pub enum Judged {
     NoPattern(u32),
 }
 
-// A head's final type is found by going down. The table is lent on as a part, which is passed in two halves: as it came it is passed in one
-// piece, which waits for the two stores that made it ("equal rigid trees" large: 1.16 with the part, 1.38 without).
+// A head's final type is found by going down, two arrows a call ("one large solution" large: 1.24 with two, 1.28 with one). The table is lent on
+// as a part, which is passed in two halves; in one piece, as it came, it waits for the stores that made it ("equal rigid trees" large: 1.13
+// with the part, 1.25 without).
 fn final_type(table: &[u32], ty: u32) -> Final
     requires { ⌜ TypeAt (now table) ty ⌝ }
     ensures { λ r. ⌜ IsFinal (now (table .entry)) ty r ⌝ }
@@ -52,10 +53,17 @@ fn final_type(table: &[u32], ty: u32) -> Final
     if x.tag != AR {
         return Final { base: ty, count: 0 };
     }
-    let f = final_type(&table[0..], x.b);
+    let y = read(table, x.b);
+    if y.tag != AR {
+        return Final {
+            base: x.b,
+            count: 1,
+        };
+    }
+    let f = final_type(&table[0..], y.b);
     Final {
         base: f.base,
-        count: f.count + 1,
+        count: f.count + 2,
     }
 }
 
@@ -90,18 +98,6 @@ fn names(table: &[u32], stack: &[u16], depth: usize, x: u32, ty: u32) -> bool
     t == ty
 }
 
-// What is left of a head's type asks no argument, and is the type asked.
-fn ends(table: &[u32], rest: u32, ty: u32) -> bool
-    requires { ⌜ TypeAt (now table) rest ⌝ }
-    ensures { λ b. ⌜ b ≡ alone (now (table .entry)) ty rest ⌝ }
-{
-    let f = final_type(table, rest);
-    if f.count != 0 {
-        return false;
-    }
-    f.base == ty
-}
-
 // The type of a rigid head: a bound variable's, or a constant's.
 fn head_type(table: &[u32], stack: &[u16], depth: usize, x: Record) -> Found
     requires { ⌜ (depth ≤ length (now stack)) × ((x .tag ≡ VA → ⊥) → 4 * (x .a) + 3 < length (now table)) ⌝ }
@@ -128,7 +124,7 @@ fn bind(table: &[u32], stack: &mut [u16], depth: usize, ty: u32) -> Found
 }
 
 // A term checks at a type under the binders on the stack. The loop goes on with a lambda's body, and with a rigid head's last argument: with a
-// call for that one too "deep equal nests" doubles (0.99 to 1.93).
+// call for that one too "deep equal nests" large reads 1.82, and not 1.00.
 fn check_term(
     table: &[u32],
     stack: &mut [u16],
@@ -160,10 +156,17 @@ fn check_term(
         let Found::At(head) = head_type(table, stack, d, x) else {
             return false;
         };
-        if x.b == NONE {
-            return ends(table, head, at);
+        let f = final_type(table, head);
+        if f.base != at {
+            return false;
         }
-        let Checked::ButLast { last, ty: t } = check_args(table, stack, low, d, x.b, head, at)
+        if f.count == 0 {
+            return x.b == NONE;
+        }
+        if x.b == NONE {
+            return false;
+        }
+        let Checked::ButLast { last, ty: t } = check_args(table, stack, low, d, x.b, head, f.count)
         else {
             return false;
         };
@@ -193,8 +196,7 @@ fn check_hole(
     check_fills(table, stack, low, depth, x.b, hole.a)
 }
 
-// A list of arguments has exactly as many as the head's type asks, each but the last checks, and what is left of the head's type after them is
-// the type asked.
+// A list has as many arguments as the head's type asks, `count`, so that each is read beside an arrow, and each but the last checks.
 fn check_args(
     table: &[u32],
     stack: &mut [u16],
@@ -202,27 +204,29 @@ fn check_args(
     depth: usize,
     l: u32,
     head: u32,
-    ty: u32,
+    count: u32,
 ) -> Checked
-    requires { ⌜ (ArgsAsk (TypeAt (now table)) (now table) (now stack) (now low) depth l head) × (l ≡ NONE → ⊥) ⌝ }
-    ensures { λ x. ⌜ Leaves (now (table .entry)) (now (stack .entry)) (now (low .entry)) depth l head ty (now (stack .exit)) (now (low .exit)) x ⌝ }
+    requires { ⌜ ListAsks (now table) (now stack) (now low) depth l head count ⌝ }
+    ensures { λ x. ⌜ Leaves (now (table .entry)) (now (stack .entry)) (now (low .entry)) depth l head (now (stack .exit)) (now (low .exit)) x ⌝ }
 {
     let mut list = l;
     let mut rest = head;
+    let mut left = count;
     loop {
         let t = read(table, rest);
-        if t.tag != AR {
-            return Checked::Fails;
-        }
         let cell = read(table, list);
-        if cell.b == NONE {
-            if !ends(table, t.b, ty) {
+        left -= 1;
+        if left == 0 {
+            if cell.b != NONE {
                 return Checked::Fails;
             }
             return Checked::ButLast {
                 last: cell.a,
                 ty: t.a,
             };
+        }
+        if cell.b == NONE {
+            return Checked::Fails;
         }
         if !check_term(table, stack, low, depth, cell.a, t.a) {
             return Checked::Fails;

@@ -7,9 +7,9 @@ use Rattle.rules.specs.Words.{NONE, isType}
 use Rattle.laws.specs.Lists.{size}
 use Rattle.laws.specs.Places.{TypeAt, ListAt}
 use Rattle.typing.specs.Stack.{binders}
-use Rattle.typing.specs.Asks.{applies, filled}
-use Rattle.typing.proofs.Arguments.{Passed, passed-none, cell-inside, element-inside, rest-less, element-less, element-asks, head-inside as type-of-head-inside, too-many, domain-type, result-type, last-remains, last-ends, argument-fails, argument-checks, context-ends, context-short, context-inside, context-type, bare-fills, filling-fails, filling-checks}
-use Rattle.typing.proofs.Terms.{InHand, hand-first, answered, term-inside, room-left, hole-less, tagged, body-less, no-arrow, body-next, arguments-less, hole-inside, hole-list, fills-less, other-type, hole-asks, hole-told, head-inside, head-free, head-asks, head-type, head-alone, head-fails, last-less, last-next}
+use Rattle.typing.specs.Asks.{filled}
+use Rattle.typing.proofs.Arguments.{Passed, passed-none, cell-inside, element-inside, rest-less, element-less, element-asks, Counting, counting-first, head-inside as type-of-head-inside, list-inside, left-some, too-many, too-short, last-remains, argument-asks, argument-less, cells-less, argument-fails, argument-checks, context-ends, context-short, context-inside, context-type, bare-fills, filling-fails, filling-checks}
+use Rattle.typing.proofs.Terms.{InHand, hand-first, answered, term-inside, room-left, hole-less, tagged, body-less, no-arrow, body-next, arguments-less, hole-inside, hole-list, fills-less, other-type, hole-asks, hole-told, head-inside, head-free, Headed, headed, head-type, other-base, none-asked, none-given, list-asks, list-fails, last-less, last-next}
 use borrow.Fn.Kinds.{In}
 use borrow.Fn.PlainCycle.{Measures, is, falls, and}
 use Rattle.typing.proofs.check_args.Reads as check-args
@@ -27,7 +27,7 @@ use Rattle.typing.proofs.+check_args+check_fills+check_hole+check_term.
 use Rattle.patterns.proofs.offended.Reads as offended-reads
 use Rattle.table.proofs.read.Reads as read-reads
 use Rattle.typing.proofs.bind.Reads as bind-reads
-use Rattle.typing.proofs.ends.Reads as ends-reads
+use Rattle.typing.proofs.final_type.Reads as final-type-reads
 use Rattle.typing.proofs.head_type.Reads as head-type-reads
 use Rattle.typing.proofs.names.Reads as names-reads
 use Rattle.typing.proofs.+check_args+check_fills+check_hole+check_term.{statement}
@@ -79,7 +79,7 @@ check-term-below t =
 
 abbrev check-args-calls : ℕ → check-args-lts.Claims
 check-args-calls t =
-    (read-reads.Asked, read-reads.Learnt, ends-reads.Asked, ends-reads.Learnt, check-term-below t, check-term.Post)
+    (read-reads.Asked, read-reads.Learnt, check-term-below t, check-term.Post)
 
 abbrev check-fills-calls : ℕ → check-fills-lts.Claims
 check-fills-calls t =
@@ -91,13 +91,13 @@ check-hole-calls t =
 
 abbrev check-term-calls : ℕ → check-term-lts.Claims
 check-term-calls t =
-    (read-reads.Asked, read-reads.Learnt, bind-reads.Asked, bind-reads.Learnt, check-hole-below t, check-hole.Post, head-type-reads.Asked, head-type-reads.Learnt, ends-reads.Asked, ends-reads.Learnt, check-args-below t, check-args.Post)
+    (read-reads.Asked, read-reads.Learnt, bind-reads.Asked, bind-reads.Learnt, check-hole-below t, check-hole.Post, head-type-reads.Asked, head-type-reads.Learnt, final-type-reads.Asked, final-type-reads.Learnt, check-args-below t, check-args.Post)
 
 abbrev check-args-Inv-loop : check-args-lts.InvT-loop
-check-args-Inv-loop table stack₀ low₀ depth l head ty list₀ rest₀ stack low list rest = (Passed (TypeAt table) (applies table (binders stack₀ depth) ty) table stack₀ low₀ depth l head stack low list rest) × (list ≡ NONE → ⊥)
+check-args-Inv-loop table stack₀ low₀ depth l head count list₀ rest₀ left₀ stack low list rest left = Counting table stack₀ low₀ depth l head stack low list rest left
 
 abbrev check-args-μ-loop : check-args-lts.MeasureT-loop
-check-args-μ-loop table stack₀ low₀ depth l head ty list₀ rest₀ stack low list rest = size list
+check-args-μ-loop table stack₀ low₀ depth l head count list₀ rest₀ left₀ stack low list rest left = size list
 
 abbrev check-fills-Inv-loop : check-fills-lts.InvT-loop
 check-fills-Inv-loop table stack₀ low₀ depth l context list₀ rest₀ stack low list rest = Passed (ListAt (isType table) table) (filled table (binders stack₀ depth)) table stack₀ low₀ depth l context stack low list rest
@@ -111,6 +111,17 @@ check-term-Inv-loop table stack₀ low₀ depth r ty d₀ at₀ term₀ stack lo
 abbrev check-term-μ-loop : check-term-lts.MeasureT-loop
 check-term-μ-loop table stack₀ low₀ depth r ty d₀ at₀ term₀ stack low d at term = term
 
+-- where a rigid head's type is found
+abbrev At-head : ℕ → Type 0
+At-head t = check-term-lts.After-known-told2 (check-term-calls t) (check-term-at t) check-term.Post check-term-Inv-loop check-term-μ-loop
+
+at-head : (t : ℕ) (c : At-head t)
+    → let a = c .before .before .before .before .before .before .before .before .before .before .before .before .before .args in
+    let l = c .before .before .before .before .before .before .before .before .before .before .loop in
+    Headed (a .table .now) (a .stack .now) (a .low .now) (a .depth) (a .r) (a .ty) (l .stack) (l .low) (l .d) (l .at) (l .term) (c .before .before .before .before .before .before .before .before .before .read .result) (c .before .head .given .0 .0)
+at-head t c =
+    headed (c .before .before .before .before .before .before .before .before .before .before .loop .inv) (c .before .before .before .before .before .before .before .before .before .read .ensures) (c .before .before .before .before .before .before .before .if1 .left) (c .before .before .before .before .before .if2 .left) (c .before .before .before .head-type .ensures) (search needs)
+
 pub +check-args+check-fills+check-hole+check-term-spec : {M : Type 1} → statement M
 +check-args+check-fills+check-hole+check-term-spec =
     close μ-check-args μ-check-fills μ-check-hole μ-check-term (λ t. check-args-lts.spec (check-args-calls t)
@@ -118,21 +129,21 @@ pub +check-args+check-fills+check-hole+check-term-spec : {M : Type 1} → statem
     check-args.Post
     check-args-Inv-loop
     check-args-μ-loop
-    (λ c. (search passed-none, search needs))
+    (λ c. search counting-first)
     (λ c κs. search type-of-head-inside)
+    (λ c κs. search list-inside)
+    (λ c. search left-some)
     (λ c. search needs)
     (λ c. search too-many)
-    (λ c κs. search cell-inside)
-    (λ c κs. search result-type)
-    (λ c. search needs)
-    (λ c. search last-ends)
     (λ c. search needs)
     (λ c. search last-remains)
-    (λ c κs. (search element-less, search (element-asks, domain-type)))
+    (λ c. search needs)
+    (λ c. search too-short)
+    (λ c κs. (search argument-less, search argument-asks))
     (λ c. search needs)
     (λ c. search argument-fails)
-    (λ c. search rest-less)
-    (λ c. (search argument-checks, search needs)))
+    (λ c. search cells-less)
+    (λ c. search argument-checks))
     (λ t. check-fills-lts.spec (check-fills-calls t)
     (check-fills-at t)
     check-fills.Post
@@ -186,13 +197,17 @@ pub +check-args+check-fills+check-hole+check-term-spec : {M : Type 1} → statem
     (λ c. search needs)
     (λ c. search needs)
     (λ c. search head-free)
-    (λ c κs. head-type (c .before .before .before .before .before .before .before .before .before .before .before .before .loop .inv) (c .before .before .before .before .before .before .before .before .before .before .before .read .ensures) (c .before .before .before .before .before .before .before .before .before .if1 .left) (c .before .before .before .before .before .before .before .if2 .left) (c .before .before .before .before .before .head-type .ensures) (search needs))
+    (λ c κs. head-type (at-head t c))
     (λ c. search needs)
-    (λ c. head-alone (c .before .before .before .before .before .before .before .before .before .before .before .before .before .loop .inv) (c .before .before .before .before .before .before .before .before .before .before .before .before .read .ensures) (c .before .before .before .before .before .before .before .before .before .before .if1 .left) (c .before .before .before .before .before .before .before .before .if2 .left) (c .before .before .before .before .before .before .head-type .ensures) (search needs) _ (c .before .if3 .taken) (c .ends .ensures))
-    (λ c κs. (search arguments-less, (head-asks (c .before .before .before .before .before .before .before .before .before .before .before .before .before .before .loop .inv) (c .before .before .before .before .before .before .before .before .before .before .before .before .before .read .ensures) (c .before .before .before .before .before .before .before .before .before .before .before .if1 .left) (c .before .before .before .before .before .before .before .before .before .if2 .left) (c .before .before .before .before .before .before .before .head-type .ensures) (search needs), search needs)))
+    (λ c. other-base (at-head t (c .before .before .before)) (c .before .before .final-type .ensures) (c .if3 .taken))
+    (λ c. search needs)
+    (λ c. none-asked (at-head t (c .before .before .before .before .before .before)) (c .before .before .before .before .before .final-type .ensures) (c .before .before .before .if3 .left) (c .before .if4 .taken))
+    (λ c. search needs)
+    (λ c. none-given (at-head t (c .before .before .before .before .before .before .before)) (c .before .before .before .before .before .before .final-type .ensures) (c .before .before .before .before .if3 .left) (c .before .before .if4 .left) (c .if5 .taken))
+    (λ c κs. (arguments-less (at-head t (c .before .before .before .before .before .before .before .before .before)) _ (c .before .before .before .before .before .before .before .before .before .before .before .before .before .before .before .before .before .before .before .before .before .before .pre .0), list-asks (at-head t (c .before .before .before .before .before .before .before .before .before)) (c .before .before .before .before .before .before .before .before .final-type .ensures) (c .before .before .before .before .before .before .if3 .left) (c .before .before .before .before .if4 .left) (c .before .before .if5 .left)))
     (λ c. search needs)
     (λ c. search needs)
-    (λ c. search needs)
-    (λ c. head-fails (c .before .before .before .before .before .before .before .before .before .before .before .before .before .before .before .before .before .before .before .loop .inv) (c .before .before .before .before .before .before .before .before .before .before .before .before .before .before .before .before .before .before .read .ensures) (c .before .before .before .before .before .before .before .before .before .before .before .before .before .before .before .before .if1 .left) (c .before .before .before .before .before .before .before .before .before .before .before .before .before .before .if2 .left) (c .before .before .before .before .before .before .before .before .before .before .before .before .head-type .ensures) (search needs) _ _ _ (c .before .before .before .before .check-args .ensures) (search needs))
-    (λ c. last-less (c .before .before .before .before .before .before .before .before .before .before .before .before .before .before .before .before .before .before .before .before .loop .inv) (c .before .before .before .before .before .before .before .before .before .before .before .before .before .before .before .before .before .before .before .read .ensures) (c .before .before .before .before .before .before .before .before .before .before .before .before .before .before .before .before .before .if1 .left) (c .before .before .before .before .before .before .before .before .before .before .before .before .before .before .before .if2 .left) (c .before .before .before .before .before .before .before .before .before .before .before .before .before .head-type .ensures) (search needs) _ _ _ (c .before .before .before .before .before .check-args .ensures) {u = c .before .last .given .0 .1 .0} (search needs))
-    (λ c. last-next (c .before .before .before .before .before .before .before .before .before .before .before .before .before .before .before .before .before .before .before .before .loop .inv) (c .before .before .before .before .before .before .before .before .before .before .before .before .before .before .before .before .before .before .before .read .ensures) (c .before .before .before .before .before .before .before .before .before .before .before .before .before .before .before .before .before .if1 .left) (c .before .before .before .before .before .before .before .before .before .before .before .before .before .before .before .if2 .left) (c .before .before .before .before .before .before .before .before .before .before .before .before .before .head-type .ensures) (search needs) _ _ _ (c .before .before .before .before .before .check-args .ensures) (search needs) (search needs))
+    (λ c. let long = c .before .before .before .before .before .before .before .before .before .before .before .before .before .before .before .before .before .before .before .before .before .before .before .before .loop .inv .same-length in search needs)
+    (λ c. list-fails (at-head t (c .before .before .before .before .before .before .before .before .before .before .before .before .before .before)) (c .before .before .before .before .before .before .before .before .before .before .before .before .before .final-type .ensures) (c .before .before .before .before .before .before .before .before .before .before .before .if3 .left) (c .before .before .before .before .before .before .before .before .before .if4 .left) _ _ _ (c .before .before .before .before .check-args .ensures) (search needs))
+    (λ c. last-less (at-head t (c .before .before .before .before .before .before .before .before .before .before .before .before .before .before .before)) (c .before .before .before .before .before .before .before .before .before .before .before .before .before .before .final-type .ensures) (c .before .before .before .before .before .before .before .before .before .before .before .before .if3 .left) (c .before .before .before .before .before .before .before .before .before .before .if4 .left) _ _ _ (c .before .before .before .before .before .check-args .ensures) {u = c .before .last .given .0 .1 .0} (search needs))
+    (λ c. last-next (at-head t (c .before .before .before .before .before .before .before .before .before .before .before .before .before .before .before)) (c .before .before .before .before .before .before .before .before .before .before .before .before .before .before .final-type .ensures) (c .before .before .before .before .before .before .before .before .before .before .before .before .if3 .left) (c .before .before .before .before .before .before .before .before .before .before .if4 .left) _ _ _ (c .before .before .before .before .before .check-args .ensures) (search needs) (search needs))
