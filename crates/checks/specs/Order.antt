@@ -21,10 +21,10 @@ use Rattle.rules.specs.Records.{broken}
 use Rattle.rules.specs.Typing.{ill-typed}
 use Rattle.rules.specs.Pattern.{no-pattern}
 use Rattle.rules.specs.Solve.{Refusal, admitted, refused, refusal}
-use Rattle.refuse.specs.declared.Asked.the-variants.{Solving}
-use Rattle.refuse.specs.declared.Refusal.{Refusal as Refuses}
-use Rattle.refuse.specs.declared.Refusal.the-variants.{Admitted, Refused as Stopped}
-use Rattle.refuse.specs.Refusing.{refusalOf, outside, asks, sound, Settled, outside-refused, inside-sound, in-table}
+use Rattle.checks.specs.declared.Asked.the-variants.{Solving}
+use Rattle.checks.specs.declared.Refusal.{Refusal as Refuses}
+use Rattle.checks.specs.declared.Refusal.the-variants.{Admitted, Refused as Stopped}
+use Rattle.checks.specs.Refusing.{refusalOf, outside, asks, sound, Settled, outside-refused, inside-sound, in-table}
 
 -- the reply to what comes before the machine: 0 where nothing is refused
 unfoldable pub saying : Refusal → Reply
@@ -82,9 +82,9 @@ pub solving-sound : (ws es : List ℕ) (n : ℕ) (x : Refuses) (r : Reply) → S
 unfolding asks
 solving-sound ws es n x r s q = rw (s .says) q
 
-pub says-admitted : (x : Refuses) (k : ℕ) → x ≡ Admitted k → saying (refusalOf x) ≡ reply 0 0 0
+pub says-admitted : (x : Refuses) (k : ℕ) (r : Reply) → x ≡ Admitted k → reply 0 0 0 ≡ r → saying (refusalOf x) ≡ r
 unfolding saying
-says-admitted x k e = rw e
+says-admitted x k r e q = rw e q
 
 pub says-refused : (x : Refuses) (why : Refused) (r : Reply) → x ≡ Stopped why → refusing why ≡ r → saying (refusalOf x) ≡ r
 unfolding saying

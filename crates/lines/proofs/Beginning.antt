@@ -18,8 +18,8 @@ use Rattle.rules.specs.Show.{answer, shows, show}
 use Rattle.rules.specs.File.{Read, read}
 use Rattle.rules.specs.Text.{Bytes, replyLine, shownText, holeLine, solvedLines, lines, programLines}
 use Rattle.laws.specs.Noted.{noted-member}
-use Rattle.refuse.specs.declared.Asked.the-variants.{Record as Asking}
-use Rattle.refuse.specs.Refusing.{asks, isHole}
+use Rattle.checks.specs.declared.Asked.the-variants.{Record as Asking}
+use Rattle.checks.specs.Refusing.{asks, isHole}
 use Rattle.solver.specs.Answering.{Answerable, answerable}
 use Rattle.solver.specs.Used.{read-used}
 use Rattle.lines.specs.declared.Begun.{Begun}

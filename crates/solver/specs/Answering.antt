@@ -47,9 +47,9 @@ use Rattle.show.specs.Ready.{Final}
 use Rattle.show.specs.Answer.{Answering}
 use Rattle.show.specs.Outside.{Leaves, answer-leaves}
 use Rattle.fill.specs.Filled.{filled-again}
-use Rattle.refuse.specs.declared.Asked.{Asked}
-use Rattle.refuse.specs.declared.Asked.the-variants.{Record as Asking}
-use Rattle.refuse.specs.Refusing.{asks, isHole}
+use Rattle.checks.specs.declared.Asked.{Asked}
+use Rattle.checks.specs.declared.Asked.the-variants.{Record as Asking}
+use Rattle.checks.specs.Refusing.{asks, isHole}
 
 -- a final store of the machine, and an input hole
 pub record Answerable (ws ss : List ℕ) (h : ℕ) : Type 0 where

@@ -15,9 +15,9 @@ use Rattle.rules.specs.Solve.{admitted, refusal, Behind, leaves}
 use Rattle.invariants.specs.Admit.{Admitted, refusal-says}
 use Rattle.promise.specs.Admitting.{admitted-is}
 use Rattle.records.specs.Rows.{BrokenAsks}
-use Rattle.refuse.specs.declared.Refusal.{Refusal}
-use Rattle.refuse.specs.declared.Refusal.the-variants.{Admitted as Admits-all, Refused}
-use Rattle.refuse.specs.Refusing.{refusalOf, outside, Settled, outside-refused, inside-sound, in-table, zeros-ask}
+use Rattle.checks.specs.declared.Refusal.{Refusal}
+use Rattle.checks.specs.declared.Refusal.the-variants.{Admitted as Admits-all, Refused}
+use Rattle.checks.specs.Refusing.{refusalOf, outside, Settled, outside-refused, inside-sound, in-table, zeros-ask}
 use Rattle.solver.specs.Running.{Admits}
 
 -- an input within its table and solution words, of at most k records

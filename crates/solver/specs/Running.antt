@@ -27,8 +27,8 @@ use Rattle.promise.specs.Admitting.{Admitted as Typed}
 use Rattle.promise.specs.Known.{known-start}
 use Rattle.store.specs.Said.{store}
 use Rattle.fill.specs.Filled.{filled-put, filled-again}
-use Rattle.refuse.specs.declared.Asked.the-variants.{Solving}
-use Rattle.refuse.specs.Refusing.{asks}
+use Rattle.checks.specs.declared.Asked.the-variants.{Solving}
+use Rattle.checks.specs.Refusing.{asks}
 use Rattle.machine.specs.declared.Ran.{Ran}
 use Rattle.machine.specs.declared.Ran.the-variants.{Solved, Failed}
 use Rattle.machine.specs.Run.{ended}

@@ -1,13 +1,13 @@
 // Solving, and showing one hole's answer: the public functions over lent words.
+use checks::Asked;
+use checks::Refusal;
+use checks::out_of_room;
+use checks::refuse;
+use checks::refusing;
+use checks::room_of;
 use fill::fill;
 use machine::Ran;
 use machine::machine;
-use refuse::Asked;
-use refuse::Refusal;
-use refuse::out_of_room;
-use refuse::refuse;
-use refuse::refusing;
-use refuse::room_of;
 use rules::Failure;
 use rules::Refused;
 use rules::Reply;
@@ -22,7 +22,7 @@ ghost use Rattle.rules.specs.Answers.{too-few, pairs, number};
 ghost use Rattle.rules.specs.Solve.{admitted, refusal, leaves, solve as solveOf};
 ghost use Rattle.rules.specs.Show.{show as showOf};
 ghost use Rattle.machine.specs.Start.{Started};
-ghost use Rattle.refuse.specs.Refusing.{asks, refusalOf};
+ghost use Rattle.checks.specs.Refusing.{asks, refusalOf};
 ghost use Rattle.solver.specs.Clearing.{Clearing, Cleared};
 ghost use Rattle.solver.specs.Unused.{Unused};
 ghost use Rattle.solver.specs.Running.{Machines, Concluding, Concludes, Admits};

@@ -1,3 +1,4 @@
+pub mod Different  -- what a turn of the pattern check has to show
 pub mod Heads  -- final types, domains and the types of heads
 pub mod Binders  -- a lambda's binder on the stack
 pub mod Bare  -- a hole's argument that is a bare variable

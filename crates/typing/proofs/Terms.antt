@@ -23,8 +23,8 @@ use Rattle.laws.specs.Members.{more, every-at}
 use Rattle.laws.specs.Forms.{is-lambda, is-constant, is-variable, is-hole, term-of, check-lambda, check-constant, check-variable, check-hole}
 use Rattle.laws.specs.Unrolled.{checks-unrolled}
 use Rattle.laws.specs.Places.{TypeAt, ListAt, placed-inside, domain-at, result-at, body-at, arguments-at, constant-at, constant-inside, hole-at, context-at}
-use Rattle.patterns.specs.Occurrences.{occurrence}
 use Rattle.typing.specs.declared.Final.{Final}
+use Rattle.typing.specs.Occurrences.{occurrence}
 use Rattle.typing.specs.declared.Checked.{Checked}
 use Rattle.typing.specs.declared.Checked.the-variants.{Fails, ButLast}
 use Rattle.typing.specs.Stack.{binders, typeOf, binders-pop}

@@ -1,5 +1,7 @@
 // Typing (6) and patterns (7) in one descent: the lowest equation with a side that does not check, otherwise the lowest offending
 // hole occurrence.
+mod patterns;
+
 use patterns::offended;
 use rules::Found;
 use table::AR;

@@ -5,7 +5,7 @@ use Rattle.solver.proofs.leave.Statement.{statement}
 use Rattle.solver.proofs.leave.Tie as tie
 use Rattle.solver.proofs.leave.Reads as reads
 use Rattle.solver.proofs.leave.Lts as lts
-use Rattle.refuse.proofs.out_of_room.Reads as out-of-room-reads
+use Rattle.checks.proofs.out_of_room.Reads as out-of-room-reads
 use Rattle.solver.proofs.leave_64.Reads as leave-64-reads
 use Rattle.solver.proofs.leave_512.Reads as leave-512-reads
 use Rattle.solver.proofs.leave_2048.Reads as leave-2048-reads

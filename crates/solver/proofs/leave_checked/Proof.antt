@@ -5,7 +5,7 @@ use Rattle.solver.proofs.leave_checked.Statement.{statement}
 use Rattle.solver.proofs.leave_checked.Tie as tie
 use Rattle.solver.proofs.leave_checked.Reads as reads
 use Rattle.solver.proofs.leave_checked.Lts as lts
-use Rattle.refuse.proofs.refuse.Reads as refuse-reads
+use Rattle.checks.proofs.refuse.Reads as refuse-reads
 use Rattle.solver.proofs.settle.Reads as settle-reads
 
 pub leave-checked-spec : {M : Type 1} → statement M

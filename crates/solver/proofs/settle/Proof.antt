@@ -5,7 +5,7 @@ use Rattle.solver.proofs.settle.Statement.{statement}
 use Rattle.solver.proofs.settle.Tie as tie
 use Rattle.solver.proofs.settle.Reads as reads
 use Rattle.solver.proofs.settle.Lts as lts
-use Rattle.refuse.proofs.room_of.Reads as room-of-reads
+use Rattle.checks.proofs.room_of.Reads as room-of-reads
 use Rattle.solver.proofs.run.Reads as run-reads
 
 pub settle-spec : {M : Type 1} → statement M

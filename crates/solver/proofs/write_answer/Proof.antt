@@ -6,7 +6,7 @@ use Rattle.solver.proofs.write_answer.Tie as tie
 use Rattle.solver.proofs.write_answer.Reads as reads
 use Rattle.solver.proofs.write_answer.Lts as lts
 use Rattle.fill.proofs.fill.Reads as fill-reads
-use Rattle.refuse.proofs.room_of.Reads as room-of-reads
+use Rattle.checks.proofs.room_of.Reads as room-of-reads
 use Rattle.show.proofs.answer.Reads as answer-reads
 use Rattle.solver.proofs.finish.Reads as finish-reads
 

@@ -1,1 +1,0 @@
-pub mod Steps  -- what a step of the pattern check has to show

@@ -1,1 +1,0 @@
-pub mod Refusing  -- the parts of a refusal, in order
