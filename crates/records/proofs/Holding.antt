@@ -14,7 +14,7 @@ use Rattle.laws.specs.Sound.{Sound}
 use Rattle.records.specs.declared.Field.{Field}
 use Rattle.records.specs.declared.Field.the-variants.{Nil, Any, Small, OfType, OfBase, OfConstant, OfHole, OfTerm, Types, Terms, Element, Rest}
 use Rattle.records.specs.Kinds.{field, refersTo}
-use Rattle.records.specs.Marks.{counts, kind, mark, Marked, fresh, one, reference-of, within, markBelow, lies, holds, once, FieldSays}
+use Rattle.records.specs.Marks.{counts, kind, mark, Marked, fresh, one, reference-of, within, lowerMark, lies, holds, once, FieldSays}
 use Rattle.records.proofs.Joined.{both-yes}
 use Rattle.records.proofs.Ranges.{within-low, within-high, kind-type, kind-tag, kind-term, kind-types, kind-terms, kind-cells}
 use Rattle.records.proofs.Uses.{type-counts, tag-counts, term-counts, cell-counts, lower, mark-used, mark-unused, marked-referred}
@@ -38,12 +38,12 @@ module _ (ws ms u : List ℕ) (r : ℕ) (p : Marked ws ms u r) where
 
   -- a lower record of a kind that a range of marks tells
   lies-is : (low high x : ℕ) (ok : Bool) → 0 < low → high < 128 → (x < r → within low high (kind ws x) ≡ ok) → lies ms r low high x ≡ both (both (ltb x r) ok) (free x)
-  unfolding markBelow
+  unfolding lowerMark
   lies-is low high x ok a h k = go (ltb x r) refl
     where
       go : (b : Bool) → ltb x r ≡ b → lies ms r low high x ≡ both (both (ltb x r) ok) (free x)
-      go true q = let l = ltb-true x r q in rw (q, markBelow, p .marked x l, mark-in low high x h, k l) (unfold both in refl)
-      go false q = rw (q, markBelow) (within-low low high 0 a ∙ (unfold both in refl))
+      go true q = let l = ltb-true x r q in rw (q, lowerMark, p .marked x l, mark-in low high x h, k l) (unfold both in refl)
+      go false q = rw (q, lowerMark) (within-low low high 0 a ∙ (unfold both in refl))
 
   module _ (g : Sound ws r) (few : r ≤ 4096) where
     list-is : (low high x : ℕ) (ok : Bool) → 0 < low → high < 128 → (x < r → within low high (kind ws x) ≡ ok)

@@ -17,8 +17,8 @@ use Rattle.table.specs.declared.Record.{Record}
 use Rattle.table.specs.Reading.{IsRecord}
 use Rattle.records.specs.declared.Field.{Field}
 use Rattle.records.specs.Kinds.{field, Above}
-use Rattle.records.specs.Marks.{Marked, used, within, ListAsks, ListSays}
-use Rattle.records.specs.Chains.{TypeAsks, TypeSays}
+use Rattle.records.specs.Marks.{Marked, used, within, CellAsks, CellSays}
+use Rattle.records.specs.Chains.{ChainAsks, ChainSays}
 use Rattle.records.specs.Rows.{RowAsks, RowSays, RecordAsks, RecordSays}
 use Rattle.records.proofs.Ranges.{kind-other}
 use Rattle.records.proofs.Uses.{marked-next}
@@ -111,8 +111,8 @@ module _ (ws ms la be : List ℕ) (r : ℕ) (p : RecordAsks ws ms la be r) where
         marked-next ws ms₁ (used ws (r + 1)) r (s .next t) (omega arith) (s .own t ∙ sym (kind-other ws r n))
 
     module _ (ms₁ : List ℕ) (b : Bool) (lm : length ms₁ ≡ length ms) (s : RowSays ws ms₁ r b) (t : b ≡ true) where
-      pub type-asks : within 1 2 k ≡ true → TypeAsks ws la be r
-      type-asks h = let l = p .room .last in let m = p .room .before in record {
+      pub chain-asks : within 1 2 k ≡ true → ChainAsks ws la be r
+      chain-asks h = let l = p .room .last in let m = p .room .before in record {
         inside = p .inside;
         few = p .few;
         type = kind-is true h;
@@ -122,7 +122,7 @@ module _ (ws ms la be : List ℕ) (r : ℕ) (p : RecordAsks ws ms la be r) where
         known = p .passed .chains;
       }
 
-      pub says-type : within 1 2 k ≡ true → (la₁ be₁ : List ℕ) (y : Bool) → TypeSays ws la₁ be₁ r y → RecordSays ws ms₁ la₁ be₁ r y
+      pub says-type : within 1 2 k ≡ true → (la₁ be₁ : List ℕ) (y : Bool) → ChainSays ws la₁ be₁ r y → RecordSays ws ms₁ la₁ be₁ r y
       says-type h la₁ be₁ y q = record {
         answer = answer;
         next = λ v. record {
@@ -138,8 +138,8 @@ module _ (ws ms la be : List ℕ) (r : ℕ) (p : RecordAsks ws ms la be r) where
           answer : y ≡ keeps ws r
           answer = q .answer ∙ sym (keeps-is ws r b (s .answer) ∙ (unfold both in rw (t, ← listed-other ws r no-cell)))
 
-      pub list-asks : k ≡ CE → ListAsks ws ms₁ r
-      list-asks c = let l = p .room .marks in record {
+      pub cell-asks : k ≡ CE → CellAsks ws ms₁ r
+      cell-asks c = let l = p .room .marks in record {
         above = above;
         cell = at-tag ∙ c;
         so = row-shaped ws r ms₁ b s t;
@@ -147,7 +147,7 @@ module _ (ws ms la be : List ℕ) (r : ℕ) (p : RecordAsks ws ms la be r) where
         known = s .next t;
       }
 
-      pub says-cell : k ≡ CE → (ms₂ : List ℕ) (y : Bool) → ListSays ws ms₂ r y → RecordSays ws ms₂ la be r y
+      pub says-cell : k ≡ CE → (ms₂ : List ℕ) (y : Bool) → CellSays ws ms₂ r y → RecordSays ws ms₂ la be r y
       says-cell c ms₂ y q = record {
         answer = answer;
         next = λ v. record {

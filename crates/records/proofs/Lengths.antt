@@ -19,7 +19,7 @@ use Rattle.laws.specs.Tests.{false-true, both-true, either-true}
 use Rattle.laws.specs.Lists.{cells-none, cells-more}
 use Rattle.table.specs.declared.Record.{Record}
 use Rattle.table.specs.Reading.{IsRecord}
-use Rattle.records.specs.Marks.{base, kind, mark, Marked, used, ListAsks, ListSays}
+use Rattle.records.specs.Marks.{countedFrom, kind, mark, Marked, used, CellAsks, CellSays}
 use Rattle.records.proofs.Ranges.{within-true, kind-cell, kind-type, kind-term, other-kind, shaped-so, short, some}
 use Rattle.records.proofs.Uses.{type-counts, cell-counts, rest-used, mark-used, mark-unused, mark-least, marked-own, marked-next}
 
@@ -45,22 +45,22 @@ joins : Bool → Bool → ℕ → Bool
 joins t s k = both (either (both t s) (both (not t) (not s))) (leb (suc k) 16)
 
 module _ (k : ℕ) (one : 1 ≤ k) (few : k ≤ 16) where
-  mark-below : (t s : Bool) → base s + k ≤ base t → joins t s k ≡ false
-  unfolding joins base both either
+  mark-below : (t s : Bool) → countedFrom s + k ≤ countedFrom t → joins t s k ≡ false
+  unfolding joins countedFrom both either
   mark-below true true h = absurd (omega arith)
   mark-below true false h = refl
   mark-below false true h = refl
   mark-below false false h = absurd (omega arith)
 
-  mark-above : (t s : Bool) → base t + 16 ≤ base s + k → joins t s k ≡ false
-  unfolding joins base both either
+  mark-above : (t s : Bool) → countedFrom t + 16 ≤ countedFrom s + k → joins t s k ≡ false
+  unfolding joins countedFrom both either
   mark-above true true h = lt-leb (suc k) 16 (omega arith)
   mark-above true false h = refl
   mark-above false true h = refl
   mark-above false false h = lt-leb (suc k) 16 (omega arith)
 
-  mark-between : (t s : Bool) → base t < base s + k → base s + k < base t + 16 → (joins t s k ≡ true) × (base s ≡ base t)
-  unfolding joins base both either
+  mark-between : (t s : Bool) → countedFrom t < countedFrom s + k → countedFrom s + k < countedFrom t + 16 → (joins t s k ≡ true) × (countedFrom s ≡ countedFrom t)
+  unfolding joins countedFrom both either
   mark-between true true a b = (le-leb (suc k) 16 (omega arith), refl)
   mark-between true false a b = absurd (omega arith)
   mark-between false true a b = absurd (omega arith)
@@ -80,10 +80,10 @@ type-mark ws u x e = go (isType ws x) refl
         let k = within-true 6 9 (kind ws x) (kind-term ws x ∙ e ∙ ap not q) .0 in
         lt-leb (mark ws u x) 2 (omega arith) ∙ sym q
 
-base-high : (t : Bool) → base t ≤ 32
-unfolding base
-base-high true = omega arith
-base-high false = omega arith
+from-high : (t : Bool) → countedFrom t ≤ 32
+unfolding countedFrom
+from-high true = omega arith
+from-high false = omega arith
 
 -- A cell
 
@@ -91,7 +91,7 @@ pub listed-other : (ws : List ℕ) (r : ℕ) → (tag ws r ≡ CE → ⊥) → t
 unfolding listed has either
 listed-other ws r z = rw (ne-eqb _ _ z)
 
-module _ (ws ms : List ℕ) (r : ℕ) (p : ListAsks ws ms r) (x : Record) (w : IsRecord ws r x) where
+module _ (ws ms : List ℕ) (r : ℕ) (p : CellAsks ws ms r) (x : Record) (w : IsRecord ws r x) where
   cell-fits : (fits ws r element (fieldA ws r) ≡ true) × (fits ws r rest (fieldB ws r) ≡ true)
   unfolding shaped shape shapes
   cell-fits = let q = both-true _ _ (rw (p .cell) at (p .so)) in (q .0, both-true _ _ (q .1) .0)
@@ -114,12 +114,12 @@ module _ (ws ms : List ℕ) (r : ℕ) (p : ListAsks ws ms r) (x : Record) (w : I
       let m = marked-own ws ms (used ws (r + 1)) r (p .known) v in
       marked-next ws (set ms r v) (used ws (r + 1)) r m (simp length-set (p .room)) (getD-set-same ms r v 0 (p .room) ∙ e)
 
-  module _ (s : ℕ) (es : s ≡ base (leb (getD ms (x .a) 0) 2)) where
-    start-is : s ≡ base (isType ws (fieldA ws r))
-    start-is = es ∙ ap base element-mark
+  module _ (s : ℕ) (es : s ≡ countedFrom (leb (getD ms (x .a) 0) 2)) where
+    start-is : s ≡ countedFrom (isType ws (fieldA ws r))
+    start-is = es ∙ ap countedFrom element-mark
 
     start-low : s ≤ 32
-    start-low = let h = base-high (isType ws (fieldA ws r)) in let e = start-is in omega arith
+    start-low = let h = from-high (isType ws (fieldA ws r)) in let e = start-is in omega arith
 
     pub one-fits : Fits w8 (s + 1)
     one-fits = let h = start-low in record { fits = omega arith }
@@ -127,7 +127,7 @@ module _ (ws ms : List ℕ) (r : ℕ) (p : ListAsks ws ms r) (x : Record) (w : I
     pub most-fits : Fits w8 (s + 16)
     most-fits = let h = start-low in record { fits = omega arith }
 
-    pub list-one : x .b ≡ NONE → ListSays ws (set ms r (s + 1)) r true
+    pub list-one : x .b ≡ NONE → CellSays ws (set ms r (s + 1)) r true
     unfolding listed alike has either both
     list-one z = record {
       answer = rw (p .cell, eq-eqb (fieldB ws r) NONE (sym (w .b-is) ∙ z), ← length-one);
@@ -156,7 +156,7 @@ module _ (ws ms : List ℕ) (r : ℕ) (p : ListAsks ws ms r) (x : Record) (w : I
       abbrev count : ℕ
       count = length (cells 17 ws (fieldB ws r))
 
-      rest-mark : getD ms (x .b) 0 ≡ base (isType ws (fieldA ws (fieldB ws r))) + count + 128
+      rest-mark : getD ms (x .b) 0 ≡ countedFrom (isType ws (fieldA ws (fieldB ws r))) + count + 128
       unfolding shape shapes both
       rest-mark =
           let q = rest-low in
@@ -191,16 +191,16 @@ module _ (ws ms : List ℕ) (r : ℕ) (p : ListAsks ws ms r) (x : Record) (w : I
       few-cells : count ≤ 16
       few-cells = let q = rest-low in short ws r (p .above .lower) (fieldB ws r) (q .0) (q .1)
 
-      refused : joins (isType ws (fieldA ws r)) (isType ws (fieldA ws (fieldB ws r))) count ≡ false → ListSays ws ms r false
+      refused : joins (isType ws (fieldA ws r)) (isType ws (fieldA ws (fieldB ws r))) count ≡ false → CellSays ws ms r false
       refused e = record { answer = sym (listed-is ∙ e); next = λ q. absurd (false-true q) }
 
-      pub list-low : getD ms (x .b) 0 - 128 ≤ s → ListSays ws ms r false
+      pub list-low : getD ms (x .b) 0 - 128 ≤ s → CellSays ws ms r false
       list-low h =
           let e = start-is in
           let m = rest-mark in
           refused (mark-below count one-cell few-cells (isType ws (fieldA ws r)) (isType ws (fieldA ws (fieldB ws r))) (omega arith))
 
-      pub list-long : s + 16 ≤ getD ms (x .b) 0 - 128 → ListSays ws ms r false
+      pub list-long : s + 16 ≤ getD ms (x .b) 0 - 128 → CellSays ws ms r false
       list-long h =
           let e = start-is in
           let m = rest-mark in
@@ -208,12 +208,12 @@ module _ (ws ms : List ℕ) (r : ℕ) (p : ListAsks ws ms r) (x : Record) (w : I
 
       pub more-fits : Fits w8 (getD ms (x .b) 0 - 128 + 1)
       more-fits =
-          let h = base-high (isType ws (fieldA ws (fieldB ws r))) in
+          let h = from-high (isType ws (fieldA ws (fieldB ws r))) in
           let m = rest-mark in
           let f = few-cells in
           record { fits = omega arith }
 
-      pub list-more : s < getD ms (x .b) 0 - 128 → getD ms (x .b) 0 - 128 < s + 16 → ListSays ws (set ms r (getD ms (x .b) 0 - 128 + 1)) r true
+      pub list-more : s < getD ms (x .b) 0 - 128 → getD ms (x .b) 0 - 128 < s + 16 → CellSays ws (set ms r (getD ms (x .b) 0 - 128 + 1)) r true
       list-more a b =
           let e = start-is in
           let m = rest-mark in

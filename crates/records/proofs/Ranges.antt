@@ -15,7 +15,7 @@ use Rattle.rules.specs.Records.{never, shapes, shape, fits, shaped, alike, list
 use Rattle.laws.specs.Tests.{false-true, both-true, both-no, either-true}
 use Rattle.laws.specs.Sound.{Sound, type-term}
 use Rattle.laws.specs.Lists.{cells-more}
-use Rattle.records.specs.Marks.{within, base, kind}
+use Rattle.records.specs.Marks.{within, countedFrom, kind}
 use Rattle.records.proofs.Joined.{both-yes}
 
 -- Ranges
@@ -54,13 +54,13 @@ within-one t k = go (ℕ-discrete k t)
 
 -- Kinds
 
-base-low : (t : Bool) → 16 ≤ base t
-unfolding base
-base-low true = omega arith
-base-low false = omega arith
+from-low : (t : Bool) → 16 ≤ countedFrom t
+unfolding countedFrom
+from-low true = omega arith
+from-low false = omega arith
 
 module _ (ws : List ℕ) (x : ℕ) where
-  pub kind-cell : tag ws x ≡ CE → kind ws x ≡ base (isType ws (fieldA ws x)) + length (cells 17 ws x)
+  pub kind-cell : tag ws x ≡ CE → kind ws x ≡ countedFrom (isType ws (fieldA ws x)) + length (cells 17 ws x)
   unfolding kind has
   kind-cell e = rw (eq-eqb _ _ e, kind)
 
@@ -75,7 +75,7 @@ module _ (ws : List ℕ) (x : ℕ) where
       go : Dec (tag ws x ≡ CE) → within low high (kind ws x) ≡ within low high (tag ws x)
       go (yes c) =
           let k = kind-cell c in
-          let b = base-low (isType ws (fieldA ws x)) in
+          let b = from-low (isType ws (fieldA ws x)) in
           within-high low high (kind ws x) (omega arith) ∙ sym (rw c e)
       go (no c) = ap (within low high) (kind-other c)
 
@@ -136,7 +136,7 @@ module _ (ws : List ℕ) (r : ℕ) (g : Sound ws r) (x : ℕ) (h : x < r) where
 
   module _ (f : r ≤ 4096) where
     -- a range of lists
-    kind-lists : (low high : ℕ) (ok : Bool → Bool) → 10 < low → ((t : Bool) (k : ℕ) → 1 ≤ k → k ≤ 16 → within low high (base t + k) ≡ ok t)
+    kind-lists : (low high : ℕ) (ok : Bool → Bool) → 10 < low → ((t : Bool) (k : ℕ) → 1 ≤ k → k ≤ 16 → within low high (countedFrom t + k) ≡ ok t)
         → within low high (kind ws x) ≡ both (has ws x CE) (ok (isType ws (fieldA ws x)))
     unfolding has
     kind-lists low high ok l each = go (ℕ-discrete (tag ws x) CE)
@@ -149,18 +149,18 @@ module _ (ws : List ℕ) (r : ℕ) (g : Sound ws r) (x : ℕ) (h : x < r) where
             within-low low high (kind ws x) (omega arith) ∙ (unfold both in rw (ne-eqb _ _ c))
 
     pub kind-types : within 17 32 (kind ws x) ≡ both (has ws x CE) (isType ws (fieldA ws x))
-    unfolding base
+    unfolding countedFrom
     kind-types = kind-lists 17 32 (λ t. t) (omega arith) each
       where
-        each : (t : Bool) (k : ℕ) → 1 ≤ k → k ≤ 16 → within 17 32 (base t + k) ≡ t
+        each : (t : Bool) (k : ℕ) → 1 ≤ k → k ≤ 16 → within 17 32 (countedFrom t + k) ≡ t
         each true k a b = within-in 17 32 _ (omega arith) (omega arith)
         each false k a b = within-high 17 32 _ (omega arith)
 
     pub kind-terms : within 33 48 (kind ws x) ≡ both (has ws x CE) (isTerm ws (fieldA ws x))
-    unfolding base has both
+    unfolding countedFrom has both
     kind-terms = kind-lists 33 48 not (omega arith) each ∙ same (ℕ-discrete (tag ws x) CE)
       where
-        each : (t : Bool) (k : ℕ) → 1 ≤ k → k ≤ 16 → within 33 48 (base t + k) ≡ not t
+        each : (t : Bool) (k : ℕ) → 1 ≤ k → k ≤ 16 → within 33 48 (countedFrom t + k) ≡ not t
         each true k a b = within-low 33 48 _ (omega arith)
         each false k a b = within-in 33 48 _ (omega arith) (omega arith)
 
@@ -169,9 +169,9 @@ module _ (ws : List ℕ) (r : ℕ) (g : Sound ws r) (x : ℕ) (h : x < r) where
         same (no c) = rw (ne-eqb _ _ c)
 
     pub kind-cells : within 17 48 (kind ws x) ≡ has ws x CE
-    unfolding base
+    unfolding countedFrom
     kind-cells = kind-lists 17 48 (λ t. true) (omega arith) each ∙ both-yes (has ws x CE)
       where
-        each : (t : Bool) (k : ℕ) → 1 ≤ k → k ≤ 16 → within 17 48 (base t + k) ≡ true
+        each : (t : Bool) (k : ℕ) → 1 ≤ k → k ≤ 16 → within 17 48 (countedFrom t + k) ≡ true
         each true k a b = within-in 17 48 _ (omega arith) (omega arith)
         each false k a b = within-in 17 48 _ (omega arith) (omega arith)

@@ -19,12 +19,12 @@ unfoldable pub counts : List ℕ → ℕ → Bool
 counts ws x = both (leb 5 (tag ws x)) (leb (tag ws x) 9)
 
 -- what a list's cells are counted from: 16 for types, 32 for terms
-unfoldable pub base : Bool → ℕ
-base types = elim types [ true ↦ 16 | false ↦ 32 ]
+unfoldable pub countedFrom : Bool → ℕ
+countedFrom types = elim types [ true ↦ 16 | false ↦ 32 ]
 
 -- a record's mark while nothing refers to it: its tag, and for a cell the number of cells of the list that begins there
 unfoldable pub kind : List ℕ → ℕ → ℕ
-kind ws x = elim (has ws x CE) [ true ↦ base (isType ws (fieldA ws x)) + length (cells 17 ws x) | false ↦ tag ws x ]
+kind ws x = elim (has ws x CE) [ true ↦ countedFrom (isType ws (fieldA ws x)) + length (cells 17 ws x) | false ↦ tag ws x ]
 
 -- a record's mark where those of u are referred to: 128 more if it is one of them
 unfoldable pub mark : List ℕ → List ℕ → ℕ → ℕ
@@ -62,11 +62,11 @@ unfoldable pub within : ℕ → ℕ → ℕ → Bool
 within low high k = both (leb low k) (leb k high)
 
 -- the mark of record x if it is below r; otherwise 0, which is no mark
-unfoldable pub markBelow : List ℕ → ℕ → ℕ → ℕ
-markBelow ms r x = elim (ltb x r) [ true ↦ getD ms x 0 | false ↦ 0 ]
+unfoldable pub lowerMark : List ℕ → ℕ → ℕ → ℕ
+lowerMark ms r x = elim (ltb x r) [ true ↦ getD ms x 0 | false ↦ 0 ]
 
 abbrev pub lies : List ℕ → ℕ → ℕ → ℕ → ℕ → Bool
-lies ms r low high x = within low high (markBelow ms r x)
+lies ms r low high x = within low high (lowerMark ms r x)
 
 -- a field of record r may hold x, as the marks say
 unfoldable pub holds : List ℕ → ℕ → Field → ℕ → Bool
@@ -103,18 +103,18 @@ unfoldable pub referred : Bool → List ℕ → ℕ → List ℕ
 referred counted ms x = elim counted [ true ↦ set ms x (getD ms x 0 + 128) | false ↦ ms ]
 
 -- each record below r has a mark, and a mark from low to high is that of a record that nothing refers to
-pub record ReferAsks (ms : List ℕ) (r low high : ℕ) : Type 0 where
+pub record ReferredAsks (ms : List ℕ) (r low high : ℕ) : Type 0 where
   pub room : r ≤ length ms
   pub some : 0 < low
   pub free : high < 128
 
 -- the answer for a reference to record x, which is marked
-pub record ReferSays (ms ms₁ : List ℕ) (r low high x : ℕ) (b : Bool) : Type 0 where
+pub record ReferredSays (ms ms₁ : List ℕ) (r low high x : ℕ) (b : Bool) : Type 0 where
   pub answer : b ≡ lies ms r low high x
   pub next : b ≡ true → ms₁ ≡ referred true ms x
 
 -- the same for a list; NONE is no record
-pub record BeginSays (ms ms₁ : List ℕ) (r low high x : ℕ) (b : Bool) : Type 0 where
+pub record FirstCellSays (ms ms₁ : List ℕ) (r low high x : ℕ) (b : Bool) : Type 0 where
   pub answer : b ≡ either (eqb x NONE) (lies ms r low high x)
   pub next : b ≡ true → ms₁ ≡ referred (not (eqb x NONE)) ms x
 
@@ -126,7 +126,7 @@ pub record FieldSays (ms ms₁ : List ℕ) (r : ℕ) (f : Field) (x : ℕ) (b : 
 -- Lists
 
 -- record r is a cell with fields as the table says, and what it and the lower records refer to is marked
-pub record ListAsks (ws ms : List ℕ) (r : ℕ) : Type 0 where
+pub record CellAsks (ws ms : List ℕ) (r : ℕ) : Type 0 where
   pub above : Above ws r
   pub cell : tag ws r ≡ CE
   pub so : shaped ws r ≡ true
@@ -134,6 +134,6 @@ pub record ListAsks (ws ms : List ℕ) (r : ℕ) : Type 0 where
   pub known : Marked ws ms (used ws (r + 1)) r
 
 -- the answer for record r, and the marks up to it
-pub record ListSays (ws ms : List ℕ) (r : ℕ) (b : Bool) : Type 0 where
+pub record CellSays (ws ms : List ℕ) (r : ℕ) (b : Bool) : Type 0 where
   pub answer : b ≡ listed ws r
   pub next : b ≡ true → Marked ws ms (used ws (r + 1)) (r + 1)
