@@ -12,16 +12,17 @@ use Rattle.rules.specs.Words.{NONE}
 use Rattle.laws.specs.Tests.{false-true}
 use Rattle.records.specs.declared.Field.{Field}
 use Rattle.records.specs.declared.Field.the-variants.{Element}
+use Rattle.records.specs.Ranges.{TYPE-LOW, TYPE-HIGH, TERM-LOW, TERM-HIGH, LIST-OF-TYPES, LIST-OF-TERMS, REFERRED}
 use Rattle.records.specs.Marks.{countedFrom, lowerMark, lies, holds, once, referred, ReferredAsks, ReferredSays, FirstCellSays, FieldSays}
 use Rattle.records.proofs.Ranges.{within-in, within-low, within-high, within-from}
 
-pub from-types : (m : ℕ) → m ≤ 2 → 16 ≡ countedFrom (leb m 2)
+pub from-types : (m : ℕ) → m ≤ TYPE-HIGH → LIST-OF-TYPES ≡ countedFrom (leb m TYPE-HIGH)
 unfolding countedFrom
-from-types m h = rw (le-leb m 2 h)
+from-types m h = rw (le-leb m TYPE-HIGH h)
 
-pub from-terms : (m : ℕ) → 2 < m → 32 ≡ countedFrom (leb m 2)
+pub from-terms : (m : ℕ) → TYPE-HIGH < m → LIST-OF-TERMS ≡ countedFrom (leb m TYPE-HIGH)
 unfolding countedFrom
-from-terms m h = rw (lt-leb m 2 h)
+from-terms m h = rw (lt-leb m TYPE-HIGH h)
 
 module _ (ms : List ℕ) (r x : ℕ) where
   pub below-yes : x < r → getD ms x 0 ≡ lowerMark ms r x
@@ -58,7 +59,7 @@ module _ (ms : List ℕ) (r low high x m : ℕ) (e : m ≡ lowerMark ms r x) whe
     pub referred-room : x < length ms
     referred-room = let l = lower in let n = p .room in omega arith
 
-    pub referred-so : m ≤ high → ReferredSays ms (set ms x (m + 128)) r low high x true
+    pub referred-so : m ≤ high → ReferredSays ms (set ms x (m + REFERRED)) r low high x true
     unfolding referred
     referred-so k = record {
       answer = rw (← e) (sym (within-in low high m h k));
@@ -90,11 +91,11 @@ module _ (ms : List ℕ) (r : ℕ) (f : Field) (x : ℕ) (b : Bool) where
 
 -- an element is a type, or else a term
 
-module _ (ms : List ℕ) (r : ℕ) (f : Field) (x : ℕ) (k : f ≡ Element) (t : Bool) (e : t ≡ lies ms r 1 2 x) where
+module _ (ms : List ℕ) (r : ℕ) (f : Field) (x : ℕ) (k : f ≡ Element) (t : Bool) (e : t ≡ lies ms r TYPE-LOW TYPE-HIGH x) where
   pub element-type : t ≡ true → FieldSays ms ms r f x t
   unfolding holds once referred either
   element-type q = rw k (record { answer = rw (← e, q); next = λ _. rw (← e, q) })
 
-  pub element-term : t ≡ false → (ms₁ : List ℕ) (b : Bool) → ReferredSays ms ms₁ r 6 9 x b → FieldSays ms ms₁ r f x b
+  pub element-term : t ≡ false → (ms₁ : List ℕ) (b : Bool) → ReferredSays ms ms₁ r TERM-LOW TERM-HIGH x b → FieldSays ms ms₁ r f x b
   unfolding holds once either
   element-term q ms₁ b s = rw k (record { answer = s .answer ∙ rw (← e, q); next = λ y. s .next y ∙ rw (← e, q) })

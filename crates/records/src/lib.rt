@@ -1,19 +1,62 @@
 // Records (5): the lowest record that breaks a rule of the records section, in one pass with a mark for each record.
 //
-// The mark of a record that keeps the rules is its tag, 1 to 10; for a cell it is the number of cells of the list that begins there, and 16 more for types,
-// 32 more for terms. A record that may be referred to once only, which is one of tag 5 to 9, has 128 more when it is. So one mark judges a field.
+// The mark of a record that keeps the rules is its tag; for a cell it is the number of cells of the list that begins there, counted from LIST_OF_TYPES or
+// from LIST_OF_TERMS. A record that may be referred to once only, which is one of tag CE to HA, has REFERRED more when it is. So one mark judges a field.
+use table::AR;
+use table::BT;
+use table::CA;
+use table::CE;
 use table::EQ;
+use table::HA;
+use table::HO;
+use table::KO;
+use table::LA;
 use table::NONE;
 use table::Record;
+use table::VA;
 use table::read;
 ghost use mathlib.Core.Path.{_≡_};
 ghost use Prim.Native.Nat.{_+_, _*_, _<_, _≤_};
 ghost use lib.ListN.{length};
 ghost use lib.Dec.{leb};
+ghost use Rattle.records.specs.Ranges.{TYPE-HIGH};
 ghost use Rattle.records.specs.Marks.{countedFrom, lowerMark, lies, ReferredAsks, ReferredSays, FirstCellSays, FieldSays, CellAsks, CellSays};
 ghost use Rattle.records.specs.Chains.{equals, ChainAsks, ChainSays};
 ghost use Rattle.records.specs.Rows.{RowAsks, RowSays, RecordAsks, RecordSays, BrokenAsks};
 ghost use Rattle.records.specs.Noting.{NoteAsks, Noted, BrokenSays};
+
+// The marks of a type, of those that are base types, of a constant, a hole, a term.
+const TYPE_LOW: u8 = BT as u8;
+
+const TYPE_HIGH: u8 = AR as u8;
+
+const BASE_TYPE: u8 = BT as u8;
+
+const CONSTANT: u8 = KO as u8;
+
+const HOLE: u8 = HO as u8;
+
+const TERM_LOW: u8 = LA as u8;
+
+const TERM_HIGH: u8 = HA as u8;
+
+// The marks of the cells that begin a list of types, or of terms, by its length.
+const MOST_CELLS: u8 = 16;
+
+const LIST_OF_TYPES: u8 = 16;
+
+const LIST_OF_TERMS: u8 = 32;
+
+const TYPES_LOW: u8 = LIST_OF_TYPES + 1;
+
+const TYPES_HIGH: u8 = LIST_OF_TYPES + MOST_CELLS;
+
+const TERMS_LOW: u8 = LIST_OF_TERMS + 1;
+
+const TERMS_HIGH: u8 = LIST_OF_TERMS + MOST_CELLS;
+
+// A record that is referred to has this much more.
+const REFERRED: u8 = 128;
 
 // What one pass over the records says: the lowest broken one, or how many equations there are.
 pub enum Pass {
@@ -106,7 +149,7 @@ fn mark_referred(marks: &mut [u8], r: u32, low: u8, high: u8, x: u32) -> bool
         return false;
     }
     let at = x as usize;
-    marks[at] = m + 128;
+    marks[at] = m + REFERRED;
     true
 }
 
@@ -130,15 +173,16 @@ fn mark_field(marks: &mut [u8], r: u32, f: Field, x: u32) -> bool
         Field::Nil => x == 0,
         Field::Any => true,
         Field::Small => x < 4096,
-        Field::OfType => lies(marks, r, 1, 2, x),
-        Field::OfBase => lies(marks, r, 1, 1, x),
-        Field::OfConstant => lies(marks, r, 3, 3, x),
-        Field::OfHole => lies(marks, r, 4, 4, x),
-        Field::OfTerm => mark_referred(marks, r, 6, 9, x),
-        Field::Types => mark_first_cell(marks, r, 17, 32, x),
-        Field::Terms => mark_first_cell(marks, r, 33, 48, x),
-        Field::Element => lies(marks, r, 1, 2, x) || mark_referred(marks, r, 6, 9, x),
-        Field::Rest => mark_first_cell(marks, r, 17, 48, x),
+        Field::OfType => lies(marks, r, TYPE_LOW, TYPE_HIGH, x),
+        Field::OfBase => lies(marks, r, BASE_TYPE, BASE_TYPE, x),
+        Field::OfConstant => lies(marks, r, CONSTANT, CONSTANT, x),
+        Field::OfHole => lies(marks, r, HOLE, HOLE, x),
+        Field::OfTerm => mark_referred(marks, r, TERM_LOW, TERM_HIGH, x),
+        Field::Types => mark_first_cell(marks, r, TYPES_LOW, TYPES_HIGH, x),
+        Field::Terms => mark_first_cell(marks, r, TERMS_LOW, TERMS_HIGH, x),
+        Field::Element => lies(marks, r, TYPE_LOW, TYPE_HIGH, x)
+            || mark_referred(marks, r, TERM_LOW, TERM_HIGH, x),
+        Field::Rest => mark_first_cell(marks, r, TYPES_LOW, TERMS_HIGH, x),
     }
 }
 
@@ -162,11 +206,15 @@ fn mark_row(table: &[u32], marks: &mut [u8], r: u32, a: Field, b: Field, c: Fiel
     true
 }
 
-// What the cells of a list are counted from, by the mark of its element: 16 for types, 32 for terms.
+// What the cells of a list are counted from, by the mark of its element.
 fn counted_from(element: u8) -> u8
-    ensures { λ b. ⌜ b ≡ countedFrom (leb element 2) ⌝ }
+    ensures { λ b. ⌜ b ≡ countedFrom (leb element TYPE-HIGH) ⌝ }
 {
-    if element <= 2 { 16 } else { 32 }
+    if element <= TYPE_HIGH {
+        LIST_OF_TYPES
+    } else {
+        LIST_OF_TERMS
+    }
 }
 
 // Marks a cell by the length of the list that begins there if that is not mixed and has at most 16 cells; true if so.
@@ -183,11 +231,11 @@ fn mark_cell(table: &[u32], marks: &mut [u8], r: u32) -> bool
         return true;
     }
     let rest = x.b as usize;
-    let count = marks[rest] - 128;
+    let count = marks[rest] - REFERRED;
     if count <= start {
         return false;
     }
-    if count < start + 16 {
+    if count < start + MOST_CELLS {
         marks[at] = count + 1;
         return true;
     }
@@ -208,19 +256,19 @@ fn mark_record(
     let x = read(table, r);
     let k = x.tag;
     match k {
-        1 => mark_row(table, marks, r, Field::Any, Field::Nil, Field::Nil)
+        BT => mark_row(table, marks, r, Field::Any, Field::Nil, Field::Nil)
             && join_chain(table, last, before, r),
-        2 => mark_row(table, marks, r, Field::OfType, Field::OfType, Field::Nil)
+        AR => mark_row(table, marks, r, Field::OfType, Field::OfType, Field::Nil)
             && join_chain(table, last, before, r),
-        3 => mark_row(table, marks, r, Field::OfType, Field::Nil, Field::Nil),
-        4 => mark_row(table, marks, r, Field::Types, Field::OfBase, Field::Nil),
-        5 => mark_row(table, marks, r, Field::Element, Field::Rest, Field::Nil)
+        KO => mark_row(table, marks, r, Field::OfType, Field::Nil, Field::Nil),
+        HO => mark_row(table, marks, r, Field::Types, Field::OfBase, Field::Nil),
+        CE => mark_row(table, marks, r, Field::Element, Field::Rest, Field::Nil)
             && mark_cell(table, marks, r),
-        6 => mark_row(table, marks, r, Field::OfTerm, Field::Nil, Field::Nil),
-        7 => mark_row(table, marks, r, Field::OfConstant, Field::Terms, Field::Nil),
-        8 => mark_row(table, marks, r, Field::Small, Field::Terms, Field::Nil),
-        9 => mark_row(table, marks, r, Field::OfHole, Field::Terms, Field::Nil),
-        10 => mark_row(table, marks, r, Field::OfTerm, Field::OfTerm, Field::OfType),
+        LA => mark_row(table, marks, r, Field::OfTerm, Field::Nil, Field::Nil),
+        CA => mark_row(table, marks, r, Field::OfConstant, Field::Terms, Field::Nil),
+        VA => mark_row(table, marks, r, Field::Small, Field::Terms, Field::Nil),
+        HA => mark_row(table, marks, r, Field::OfHole, Field::Terms, Field::Nil),
+        EQ => mark_row(table, marks, r, Field::OfTerm, Field::OfTerm, Field::OfType),
         _ => false,
     }
 }

@@ -2,6 +2,7 @@
 use mathlib.Core.Path.{refl, _∙_}
 use native.Mathlib.Omega.{arith}
 use Rattle.rules.specs.Lists.{both}
+use Rattle.rules.specs.Words.{BT, AR, KO, HO, CE, LA, CA, VA, HA, EQ}
 use Rattle.rules.specs.Records.{shapes}
 use Rattle.records.specs.Kinds.{field}
 use Rattle.records.specs.Marks.{within}
@@ -13,7 +14,7 @@ read-requires : tie.Need-read-requires
 read-requires c κs = c .before .before .before .before .pre .inside
 
 returns-14 : tie.Need-returns-14
-returns-14 c = let r = c .match .rest in says-unknown _ _ _ _ _ (c .before .before .before .before .before .before .pre) _ (c .before .read .ensures) (λ h. past _ 10 (past _ 9 (past _ 8 (past _ 7 (past _ 6 (past _ 5 (past _ 4 (past _ 3 (past _ 2 (past _ 1 h (r .0 .0 .0 .0 .0 .0 .0 .0 .0 .1)) (r .0 .0 .0 .0 .0 .0 .0 .0 .1)) (r .0 .0 .0 .0 .0 .0 .0 .1)) (r .0 .0 .0 .0 .0 .0 .1)) (r .0 .0 .0 .0 .0 .1)) (r .0 .0 .0 .0 .1)) (r .0 .0 .0 .1)) (r .0 .0 .1)) (r .0 .1)) (r .1))
+returns-14 c = let r = c .match .rest in says-unknown _ _ _ _ _ (c .before .before .before .before .before .before .pre) _ (c .before .read .ensures) (λ h. past _ EQ (past _ HA (past _ VA (past _ CA (past _ LA (past _ CE (past _ HO (past _ KO (past _ AR (past _ BT h (r .0 .0 .0 .0 .0 .0 .0 .0 .0 .1)) (r .0 .0 .0 .0 .0 .0 .0 .0 .1)) (r .0 .0 .0 .0 .0 .0 .0 .1)) (r .0 .0 .0 .0 .0 .0 .1)) (r .0 .0 .0 .0 .0 .1)) (r .0 .0 .0 .0 .1)) (r .0 .0 .0 .1)) (r .0 .0 .1)) (r .0 .1)) (r .1))
 
 pub mark-record-spec : {M : Type 1} → statement M
 unfolding field shapes within both
