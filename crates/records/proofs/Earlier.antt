@@ -16,7 +16,7 @@ use Rattle.rules.specs.Records.{new-type}
 use Rattle.laws.specs.Tests.{false-true, both-true}
 use Rattle.table.specs.declared.Record.{Record}
 use Rattle.table.specs.Reading.{IsRecord}
-use Rattle.records.specs.Chains.{equals, latest, Chains, TypeAsks, TypeSays}
+use Rattle.records.specs.Chains.{equals, latest, Chains, ChainAsks, ChainSays}
 use Rattle.records.proofs.Joined.{all-below, both-yes}
 
 -- Two records of a chain
@@ -158,7 +158,7 @@ module _ (ws : List ℕ) (r : ℕ) where
   unfolding new-type either differs
   new-is e = rw e
 
-module _ (ws la be : List ℕ) (r : ℕ) (p : TypeAsks ws la be r) (x : Record) (w : IsRecord ws r x) where
+module _ (ws la be : List ℕ) (r : ℕ) (p : ChainAsks ws la be r) (x : Record) (w : IsRecord ws r x) where
   pub key-low : x .b < length la
   key-low = let k = p .key in let h = p .room-last in let e = w .b-is in omega arith
 
@@ -192,7 +192,7 @@ module _ (ws la be : List ℕ) (r : ℕ) (p : TypeAsks ws la be r) (x : Record) 
       step : new-type ws r ≡ both (not b) (all (differs ws r) (below (j - 1)))
       step = s .left ∙ ap (λ i. all (differs ws r) (below i)) one-less ∙ all-below (differs ws r) (j - 1) ∙ rw (differs-is ws r (j - 1) x w (both-true _ _ member .1), ← eb)
 
-      pub search-stop : b ≡ true → TypeSays ws la be r false
+      pub search-stop : b ≡ true → ChainSays ws la be r false
       search-stop t = record { answer = sym (step ∙ unfold both in rw t); next = λ q. absurd (false-true q) }
 
       pub search-on : b ≡ false → Searched ws r (getD be (j - 1) 0)
@@ -205,7 +205,7 @@ module _ (ws la be : List ℕ) (r : ℕ) (p : TypeAsks ws la be r) (x : Record) 
           passed : new-type ws r ≡ all (differs ws r) (below (j - 1))
           passed = step ∙ (unfold both in rw t)
 
-  pub search-end : (j : ℕ) → Searched ws r j → j ≡ 0 → TypeSays ws (set la (x .b) (r + 1)) (set be r (getD la (x .b) 0)) r true
+  pub search-end : (j : ℕ) → Searched ws r j → j ≡ 0 → ChainSays ws (set la (x .b) (r + 1)) (set be r (getD la (x .b) 0)) r true
   search-end j s z = record {
     answer = sym (s .left ∙ ap (λ i. all (differs ws r) (below i)) z ∙ (unfold below in unfold from in unfold all in refl));
     next = λ _. chains-next ws la be r (x .b) (getD la (x .b) 0) (p .type) (w .b-is) key-low (p .room-before) refl (p .known);

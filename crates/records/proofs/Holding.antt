@@ -14,7 +14,8 @@ use Rattle.laws.specs.Sound.{Sound}
 use Rattle.records.specs.declared.Field.{Field}
 use Rattle.records.specs.declared.Field.the-variants.{Nil, Any, Small, OfType, OfBase, OfConstant, OfHole, OfTerm, Types, Terms, Element, Rest}
 use Rattle.records.specs.Kinds.{field, refersTo}
-use Rattle.records.specs.Marks.{counts, kind, mark, Marked, fresh, one, reference-of, within, markBelow, lies, holds, once, FieldSays}
+use Rattle.records.specs.Ranges.{TYPE-LOW, TYPE-HIGH, BASE-TYPE, CONSTANT, HOLE, TERM-LOW, TERM-HIGH, TYPES-LOW, TYPES-HIGH, TERMS-LOW, TERMS-HIGH, REFERRED}
+use Rattle.records.specs.Marks.{counts, kind, mark, Marked, fresh, one, reference-of, within, lowerMark, lies, holds, once, FieldSays}
 use Rattle.records.proofs.Joined.{both-yes}
 use Rattle.records.proofs.Ranges.{within-low, within-high, kind-type, kind-tag, kind-term, kind-types, kind-terms, kind-cells}
 use Rattle.records.proofs.Uses.{type-counts, tag-counts, term-counts, cell-counts, lower, mark-used, mark-unused, marked-referred}
@@ -29,7 +30,7 @@ module _ (ws ms u : List ℕ) (r : ℕ) (p : Marked ws ms u r) where
   abbrev free : ℕ → Bool
   free x = not (both (counts ws x) (among u x))
 
-  mark-in : (low high x : ℕ) → high < 128 → within low high (mark ws u x) ≡ both (within low high (kind ws x)) (free x)
+  mark-in : (low high x : ℕ) → high < REFERRED → within low high (mark ws u x) ≡ both (within low high (kind ws x)) (free x)
   mark-in low high x h = go (both (counts ws x) (among u x)) refl
     where
       go : (b : Bool) → both (counts ws x) (among u x) ≡ b → within low high (mark ws u x) ≡ both (within low high (kind ws x)) (free x)
@@ -37,16 +38,16 @@ module _ (ws ms u : List ℕ) (r : ℕ) (p : Marked ws ms u r) where
       go false q = rw (mark-unused ws u x q, q) (sym (both-yes (within low high (kind ws x))))
 
   -- a lower record of a kind that a range of marks tells
-  lies-is : (low high x : ℕ) (ok : Bool) → 0 < low → high < 128 → (x < r → within low high (kind ws x) ≡ ok) → lies ms r low high x ≡ both (both (ltb x r) ok) (free x)
-  unfolding markBelow
+  lies-is : (low high x : ℕ) (ok : Bool) → 0 < low → high < REFERRED → (x < r → within low high (kind ws x) ≡ ok) → lies ms r low high x ≡ both (both (ltb x r) ok) (free x)
+  unfolding lowerMark
   lies-is low high x ok a h k = go (ltb x r) refl
     where
       go : (b : Bool) → ltb x r ≡ b → lies ms r low high x ≡ both (both (ltb x r) ok) (free x)
-      go true q = let l = ltb-true x r q in rw (q, markBelow, p .marked x l, mark-in low high x h, k l) (unfold both in refl)
-      go false q = rw (q, markBelow) (within-low low high 0 a ∙ (unfold both in refl))
+      go true q = let l = ltb-true x r q in rw (q, lowerMark, p .marked x l, mark-in low high x h, k l) (unfold both in refl)
+      go false q = rw (q, lowerMark) (within-low low high 0 a ∙ (unfold both in refl))
 
   module _ (g : Sound ws r) (few : r ≤ 4096) where
-    list-is : (low high x : ℕ) (ok : Bool) → 0 < low → high < 128 → (x < r → within low high (kind ws x) ≡ ok)
+    list-is : (low high x : ℕ) (ok : Bool) → 0 < low → high < REFERRED → (x < r → within low high (kind ws x) ≡ ok)
         → either (eqb x NONE) (lies ms r low high x) ≡ both (either (eqb x NONE) (both (ltb x r) ok)) (fresh u (one (both (not (eqb x NONE)) (counts ws x)) x))
     list-is low high x ok a h k = rw (fresh-one u x (both (not (eqb x NONE)) (counts ws x)), lies-is low high x ok a h k) (go (eqb x NONE) (both (ltb x r) ok))
       where
@@ -54,15 +55,15 @@ module _ (ws ms u : List ℕ) (r : ℕ) (p : Marked ws ms u r) where
         go true b = unfold either in unfold both in refl
         go false b = unfold either in unfold both in refl
 
-    record-is : (low high x : ℕ) (ok : Bool) → 0 < low → high < 128 → (x < r → within low high (kind ws x) ≡ ok)
+    record-is : (low high x : ℕ) (ok : Bool) → 0 < low → high < REFERRED → (x < r → within low high (kind ws x) ≡ ok)
         → lies ms r low high x ≡ both (both (ltb x r) ok) (fresh u (one (both true (counts ws x)) x))
     record-is low high x ok a h k = lies-is low high x ok a h k ∙ rw (fresh-one u x (both true (counts ws x))) (unfold both in refl)
 
-    element-is : (x : ℕ) → either (lies ms r 1 2 x) (lies ms r 6 9 x) ≡ both (both (ltb x r) (either (isType ws x) (isTerm ws x))) (fresh u (one (both true (counts ws x)) x))
+    element-is : (x : ℕ) → either (lies ms r TYPE-LOW TYPE-HIGH x) (lies ms r TERM-LOW TERM-HIGH x) ≡ both (both (ltb x r) (either (isType ws x) (isTerm ws x))) (fresh u (one (both true (counts ws x)) x))
     element-is x =
         rw (
-          record-is 1 2 x (isType ws x) (omega arith) (omega arith) (λ _. kind-type ws x),
-          record-is 6 9 x (isTerm ws x) (omega arith) (omega arith) (λ _. kind-term ws x),
+          record-is TYPE-LOW TYPE-HIGH x (isType ws x) (omega arith) (omega arith) (λ _. kind-type ws x),
+          record-is TERM-LOW TERM-HIGH x (isTerm ws x) (omega arith) (omega arith) (λ _. kind-term ws x),
         )
         (go (ltb x r) (isType ws x) (isTerm ws x) (fresh u (one (both true (counts ws x)) x)))
       where
@@ -82,15 +83,15 @@ module _ (ws ms u : List ℕ) (r : ℕ) (p : Marked ws ms u r) where
     holds-is Nil x = plain (eqb x 0) x
     holds-is Any x = plain true x
     holds-is Small x = plain (ltb x 4096) x
-    holds-is OfType x = record-is 1 2 x _ (omega arith) (omega arith) (λ _. kind-type ws x)
-    holds-is OfBase x = record-is 1 1 x _ (omega arith) (omega arith) (λ _. kind-tag ws x BT (omega arith))
-    holds-is OfConstant x = record-is 3 3 x _ (omega arith) (omega arith) (λ _. kind-tag ws x KO (omega arith))
-    holds-is OfHole x = record-is 4 4 x _ (omega arith) (omega arith) (λ _. kind-tag ws x HO (omega arith))
-    holds-is OfTerm x = record-is 6 9 x _ (omega arith) (omega arith) (λ _. kind-term ws x)
-    holds-is Types x = list-is 17 32 x _ (omega arith) (omega arith) (λ l. kind-types ws r g x l few)
-    holds-is Terms x = list-is 33 48 x _ (omega arith) (omega arith) (λ l. kind-terms ws r g x l few)
+    holds-is OfType x = record-is TYPE-LOW TYPE-HIGH x _ (omega arith) (omega arith) (λ _. kind-type ws x)
+    holds-is OfBase x = record-is BASE-TYPE BASE-TYPE x _ (omega arith) (omega arith) (λ _. kind-tag ws x BT (omega arith))
+    holds-is OfConstant x = record-is CONSTANT CONSTANT x _ (omega arith) (omega arith) (λ _. kind-tag ws x KO (omega arith))
+    holds-is OfHole x = record-is HOLE HOLE x _ (omega arith) (omega arith) (λ _. kind-tag ws x HO (omega arith))
+    holds-is OfTerm x = record-is TERM-LOW TERM-HIGH x _ (omega arith) (omega arith) (λ _. kind-term ws x)
+    holds-is Types x = list-is TYPES-LOW TYPES-HIGH x _ (omega arith) (omega arith) (λ l. kind-types ws r g x l few)
+    holds-is Terms x = list-is TERMS-LOW TERMS-HIGH x _ (omega arith) (omega arith) (λ l. kind-terms ws r g x l few)
     holds-is Element x = element-is x
-    holds-is Rest x = list-is 17 48 x _ (omega arith) (omega arith) (λ l. kind-cells ws r g x l few)
+    holds-is Rest x = list-is TYPES-LOW TERMS-HIGH x _ (omega arith) (omega arith) (λ l. kind-cells ws r g x l few)
 
     -- Whether what a field refers to counts is seen from the field's kind
 
@@ -106,8 +107,8 @@ module _ (ws ms u : List ℕ) (r : ℕ) (p : Marked ws ms u r) where
         go true q = rw q (unfold both in refl)
         go false q = rw (q, cell-counts ws x (eqb-true _ _ (c (second x ok (unfold either in (rw q at e)))))) (unfold both in refl)
 
-    once-element : (x : ℕ) → both (ltb x r) (either (isType ws x) (isTerm ws x)) ≡ true → not (lies ms r 1 2 x) ≡ counts ws x
-    once-element x e = rw (lies-is 1 2 x (isType ws x) (omega arith) (omega arith) (λ _. kind-type ws x)) (go (isType ws x) refl)
+    once-element : (x : ℕ) → both (ltb x r) (either (isType ws x) (isTerm ws x)) ≡ true → not (lies ms r TYPE-LOW TYPE-HIGH x) ≡ counts ws x
+    once-element x e = rw (lies-is TYPE-LOW TYPE-HIGH x (isType ws x) (omega arith) (omega arith) (λ _. kind-type ws x)) (go (isType ws x) refl)
       where
         go : (t : Bool) → isType ws x ≡ t → not (both (both (ltb x r) (isType ws x)) (free x)) ≡ counts ws x
         go true q = rw (both-true (ltb x r) _ e .0, q, type-counts ws x q) (unfold both in refl)

@@ -9,7 +9,7 @@ use native.Mathlib.Decide.{ℕ-discrete}
 use borrow.Author.Tests.{ltb-true, eqb-true}
 use lib.ListN.{length, getD, List·getD-eq-default}
 use Rattle.rules.specs.Lists.{both}
-use Rattle.rules.specs.Words.{BT, AR, CE, tag, fieldB, isType}
+use Rattle.rules.specs.Words.{BT, AR, CE, EQ, tag, fieldB, isType}
 use Rattle.rules.specs.Records.{never, shapes, shape, fits, shaped, listed, new-type, first-use, keeps}
 use Rattle.laws.specs.Tests.{false-true, both-true}
 use Rattle.laws.specs.Sound.{Sound, type-tag}
@@ -17,8 +17,8 @@ use Rattle.table.specs.declared.Record.{Record}
 use Rattle.table.specs.Reading.{IsRecord}
 use Rattle.records.specs.declared.Field.{Field}
 use Rattle.records.specs.Kinds.{field, Above}
-use Rattle.records.specs.Marks.{Marked, used, within, ListAsks, ListSays}
-use Rattle.records.specs.Chains.{TypeAsks, TypeSays}
+use Rattle.records.specs.Marks.{Marked, used, within, CellAsks, CellSays}
+use Rattle.records.specs.Chains.{ChainAsks, ChainSays}
 use Rattle.records.specs.Rows.{RowAsks, RowSays, RecordAsks, RecordSays}
 use Rattle.records.proofs.Ranges.{kind-other}
 use Rattle.records.proofs.Uses.{marked-next}
@@ -91,7 +91,7 @@ module _ (ws ms la be : List ℕ) (r : ℕ) (p : RecordAsks ws ms la be r) where
     at-tag : tag ws r ≡ k
     at-tag = sym (w .tag-is) ∙ e
 
-    pub row-asks : k ≤ 10 → (a b c : Field) → getD shapes k (never, never, never) ≡ (field a, field b, field c) → RowAsks ws ms r a b c
+    pub row-asks : k ≤ EQ → (a b c : Field) → getD shapes k (never, never, never) ≡ (field a, field b, field c) → RowAsks ws ms r a b c
     row-asks l a b c h = let m = p .room .marks in let q = at-tag in record {
       above = above;
       row = shape-at ws r k at-tag a b c h;
@@ -100,7 +100,7 @@ module _ (ws ms la be : List ℕ) (r : ℕ) (p : RecordAsks ws ms la be r) where
       known = p .passed .marks;
     }
 
-    kind-is : (t : Bool) → within 1 2 k ≡ t → isType ws r ≡ t
+    kind-is : (t : Bool) → within BT AR k ≡ t → isType ws r ≡ t
     unfolding isType within
     kind-is t h = rw at-tag h
 
@@ -111,8 +111,8 @@ module _ (ws ms la be : List ℕ) (r : ℕ) (p : RecordAsks ws ms la be r) where
         marked-next ws ms₁ (used ws (r + 1)) r (s .next t) (omega arith) (s .own t ∙ sym (kind-other ws r n))
 
     module _ (ms₁ : List ℕ) (b : Bool) (lm : length ms₁ ≡ length ms) (s : RowSays ws ms₁ r b) (t : b ≡ true) where
-      pub type-asks : within 1 2 k ≡ true → TypeAsks ws la be r
-      type-asks h = let l = p .room .last in let m = p .room .before in record {
+      pub chain-asks : within BT AR k ≡ true → ChainAsks ws la be r
+      chain-asks h = let l = p .room .last in let m = p .room .before in record {
         inside = p .inside;
         few = p .few;
         type = kind-is true h;
@@ -122,7 +122,7 @@ module _ (ws ms la be : List ℕ) (r : ℕ) (p : RecordAsks ws ms la be r) where
         known = p .passed .chains;
       }
 
-      pub says-type : within 1 2 k ≡ true → (la₁ be₁ : List ℕ) (y : Bool) → TypeSays ws la₁ be₁ r y → RecordSays ws ms₁ la₁ be₁ r y
+      pub says-type : within BT AR k ≡ true → (la₁ be₁ : List ℕ) (y : Bool) → ChainSays ws la₁ be₁ r y → RecordSays ws ms₁ la₁ be₁ r y
       says-type h la₁ be₁ y q = record {
         answer = answer;
         next = λ v. record {
@@ -138,8 +138,8 @@ module _ (ws ms la be : List ℕ) (r : ℕ) (p : RecordAsks ws ms la be r) where
           answer : y ≡ keeps ws r
           answer = q .answer ∙ sym (keeps-is ws r b (s .answer) ∙ (unfold both in rw (t, ← listed-other ws r no-cell)))
 
-      pub list-asks : k ≡ CE → ListAsks ws ms₁ r
-      list-asks c = let l = p .room .marks in record {
+      pub cell-asks : k ≡ CE → CellAsks ws ms₁ r
+      cell-asks c = let l = p .room .marks in record {
         above = above;
         cell = at-tag ∙ c;
         so = row-shaped ws r ms₁ b s t;
@@ -147,7 +147,7 @@ module _ (ws ms la be : List ℕ) (r : ℕ) (p : RecordAsks ws ms la be r) where
         known = s .next t;
       }
 
-      pub says-cell : k ≡ CE → (ms₂ : List ℕ) (y : Bool) → ListSays ws ms₂ r y → RecordSays ws ms₂ la be r y
+      pub says-cell : k ≡ CE → (ms₂ : List ℕ) (y : Bool) → CellSays ws ms₂ r y → RecordSays ws ms₂ la be r y
       says-cell c ms₂ y q = record {
         answer = answer;
         next = λ v. record {
@@ -167,7 +167,7 @@ module _ (ws ms la be : List ℕ) (r : ℕ) (p : RecordAsks ws ms la be r) where
           answer : y ≡ keeps ws r
           answer = q .answer ∙ sym (keeps-is ws r b (s .answer) ∙ rw (t, new-other ws r no-type) (single (listed ws r)))
 
-    pub says-row : within 1 2 k ≡ false → (k ≡ CE → ⊥) → (ms₁ : List ℕ) (y : Bool) → length ms₁ ≡ length ms → RowSays ws ms₁ r y → RecordSays ws ms₁ la be r y
+    pub says-row : within BT AR k ≡ false → (k ≡ CE → ⊥) → (ms₁ : List ℕ) (y : Bool) → length ms₁ ≡ length ms → RowSays ws ms₁ r y → RecordSays ws ms₁ la be r y
     says-row t n ms₁ y lm s =
         let no-cell : tag ws r ≡ CE → ⊥ = λ q. n (sym at-tag ∙ q) in
         record {
@@ -186,15 +186,15 @@ module _ (ws ms la be : List ℕ) (r : ℕ) (p : RecordAsks ws ms la be r) where
             single true = unfold both in refl
             single false = unfold both in refl
 
-  unknown : Dec (tag ws r ≡ 0) → (0 < tag ws r → 10 < tag ws r) → shape ws r ≡ (never, never, never)
+  unknown : Dec (tag ws r ≡ 0) → (0 < tag ws r → EQ < tag ws r) → shape ws r ≡ (never, never, never)
   unfolding shape shapes
   unknown (yes e) h = rw e
   unknown (no z) h =
-      let l : 10 < tag ws r = h (omega arith) in
+      let l : EQ < tag ws r = h (omega arith) in
       let m : length shapes ≤ tag ws r = omega arith in
       List·getD-eq-default shapes (never, never, never) m
 
-  pub says-unknown : (x : Record) → IsRecord ws r x → (0 < x .tag → 10 < x .tag) → RecordSays ws ms la be r false
+  pub says-unknown : (x : Record) → IsRecord ws r x → (0 < x .tag → EQ < x .tag) → RecordSays ws ms la be r false
   says-unknown x w h = record {
     answer = let e = unknown (ℕ-discrete (tag ws r) 0) (rw (w .tag-is) at h) in unfold keeps in unfold shaped in unfold fits in unfold both in rw e;
     next = λ v. absurd (false-true v);

@@ -19,7 +19,8 @@ use Rattle.laws.specs.Tests.{false-true, both-true, either-true}
 use Rattle.laws.specs.Lists.{cells-none, cells-more}
 use Rattle.table.specs.declared.Record.{Record}
 use Rattle.table.specs.Reading.{IsRecord}
-use Rattle.records.specs.Marks.{base, kind, mark, Marked, used, ListAsks, ListSays}
+use Rattle.records.specs.Ranges.{TYPE-LOW, TYPE-HIGH, TERM-LOW, TERM-HIGH, MOST-CELLS, LIST-OF-TERMS, REFERRED}
+use Rattle.records.specs.Marks.{countedFrom, cellCount, kind, mark, Marked, used, CellAsks, CellSays}
 use Rattle.records.proofs.Ranges.{within-true, kind-cell, kind-type, kind-term, other-kind, shaped-so, short, some}
 use Rattle.records.proofs.Uses.{type-counts, cell-counts, rest-used, mark-used, mark-unused, mark-least, marked-own, marked-next}
 
@@ -42,48 +43,48 @@ cells-short (suc k) ws l h = go (ℕ-discrete l NONE) (λ q. cells-short k ws (f
 
 -- both of types or both of terms, and one more cell is not too many
 joins : Bool → Bool → ℕ → Bool
-joins t s k = both (either (both t s) (both (not t) (not s))) (leb (suc k) 16)
+joins t s k = both (either (both t s) (both (not t) (not s))) (leb (suc k) MOST-CELLS)
 
-module _ (k : ℕ) (one : 1 ≤ k) (few : k ≤ 16) where
-  mark-below : (t s : Bool) → base s + k ≤ base t → joins t s k ≡ false
-  unfolding joins base both either
+module _ (k : ℕ) (one : 1 ≤ k) (few : k ≤ MOST-CELLS) where
+  mark-below : (t s : Bool) → countedFrom s + k ≤ countedFrom t → joins t s k ≡ false
+  unfolding joins countedFrom both either
   mark-below true true h = absurd (omega arith)
   mark-below true false h = refl
   mark-below false true h = refl
   mark-below false false h = absurd (omega arith)
 
-  mark-above : (t s : Bool) → base t + 16 ≤ base s + k → joins t s k ≡ false
-  unfolding joins base both either
-  mark-above true true h = lt-leb (suc k) 16 (omega arith)
+  mark-above : (t s : Bool) → countedFrom t + MOST-CELLS ≤ countedFrom s + k → joins t s k ≡ false
+  unfolding joins countedFrom both either
+  mark-above true true h = lt-leb (suc k) MOST-CELLS (omega arith)
   mark-above true false h = refl
   mark-above false true h = refl
-  mark-above false false h = lt-leb (suc k) 16 (omega arith)
+  mark-above false false h = lt-leb (suc k) MOST-CELLS (omega arith)
 
-  mark-between : (t s : Bool) → base t < base s + k → base s + k < base t + 16 → (joins t s k ≡ true) × (base s ≡ base t)
-  unfolding joins base both either
-  mark-between true true a b = (le-leb (suc k) 16 (omega arith), refl)
+  mark-between : (t s : Bool) → countedFrom t < countedFrom s + k → countedFrom s + k < countedFrom t + MOST-CELLS → (joins t s k ≡ true) × (countedFrom s ≡ countedFrom t)
+  unfolding joins countedFrom both either
+  mark-between true true a b = (le-leb (suc k) MOST-CELLS (omega arith), refl)
   mark-between true false a b = absurd (omega arith)
   mark-between false true a b = absurd (omega arith)
-  mark-between false false a b = (le-leb (suc k) 16 (omega arith), refl)
+  mark-between false false a b = (le-leb (suc k) MOST-CELLS (omega arith), refl)
 
--- the mark of a type is at most 2, and that of a term is more
-type-mark : (ws u : List ℕ) (x : ℕ) → isTerm ws x ≡ not (isType ws x) → leb (mark ws u x) 2 ≡ isType ws x
+-- the mark of a type is at most TYPE-HIGH, and that of a term is more
+type-mark : (ws u : List ℕ) (x : ℕ) → isTerm ws x ≡ not (isType ws x) → leb (mark ws u x) TYPE-HIGH ≡ isType ws x
 type-mark ws u x e = go (isType ws x) refl
   where
-    go : (t : Bool) → isType ws x ≡ t → leb (mark ws u x) 2 ≡ isType ws x
+    go : (t : Bool) → isType ws x ≡ t → leb (mark ws u x) TYPE-HIGH ≡ isType ws x
     go true q =
         let m = mark-unused ws u x (unfold both in rw (type-counts ws x q)) in
-        let k = within-true 1 2 (kind ws x) (kind-type ws x ∙ q) .1 in
-        le-leb (mark ws u x) 2 (omega arith) ∙ sym q
+        let k = within-true TYPE-LOW TYPE-HIGH (kind ws x) (kind-type ws x ∙ q) .1 in
+        le-leb (mark ws u x) TYPE-HIGH (omega arith) ∙ sym q
     go false q =
         let m = mark-least ws u x in
-        let k = within-true 6 9 (kind ws x) (kind-term ws x ∙ e ∙ ap not q) .0 in
-        lt-leb (mark ws u x) 2 (omega arith) ∙ sym q
+        let k = within-true TERM-LOW TERM-HIGH (kind ws x) (kind-term ws x ∙ e ∙ ap not q) .0 in
+        lt-leb (mark ws u x) TYPE-HIGH (omega arith) ∙ sym q
 
-base-high : (t : Bool) → base t ≤ 32
-unfolding base
-base-high true = omega arith
-base-high false = omega arith
+from-high : (t : Bool) → countedFrom t ≤ LIST-OF-TERMS
+unfolding countedFrom
+from-high true = omega arith
+from-high false = omega arith
 
 -- A cell
 
@@ -91,7 +92,7 @@ pub listed-other : (ws : List ℕ) (r : ℕ) → (tag ws r ≡ CE → ⊥) → t
 unfolding listed has either
 listed-other ws r z = rw (ne-eqb _ _ z)
 
-module _ (ws ms : List ℕ) (r : ℕ) (p : ListAsks ws ms r) (x : Record) (w : IsRecord ws r x) where
+module _ (ws ms : List ℕ) (r : ℕ) (p : CellAsks ws ms r) (x : Record) (w : IsRecord ws r x) where
   cell-fits : (fits ws r element (fieldA ws r) ≡ true) × (fits ws r rest (fieldB ws r) ≡ true)
   unfolding shaped shape shapes
   cell-fits = let q = both-true _ _ (rw (p .cell) at (p .so)) in (q .0, both-true _ _ (q .1) .0)
@@ -103,7 +104,7 @@ module _ (ws ms : List ℕ) (r : ℕ) (p : ListAsks ws ms r) (x : Record) (w : I
   pub element-room : x .a < length ms
   element-room = let l = element-low in let m = p .room in let e = w .a-is in omega arith
 
-  element-mark : leb (getD ms (x .a) 0) 2 ≡ isType ws (fieldA ws r)
+  element-mark : leb (getD ms (x .a) 0) TYPE-HIGH ≡ isType ws (fieldA ws r)
   element-mark = rw (w .a-is, p .known .marked (fieldA ws r) element-low) (type-mark ws (used ws (r + 1)) (fieldA ws r) (other-kind ws r (p .so) (p .cell)))
 
   real : r ≡ NONE → ⊥
@@ -114,28 +115,28 @@ module _ (ws ms : List ℕ) (r : ℕ) (p : ListAsks ws ms r) (x : Record) (w : I
       let m = marked-own ws ms (used ws (r + 1)) r (p .known) v in
       marked-next ws (set ms r v) (used ws (r + 1)) r m (simp length-set (p .room)) (getD-set-same ms r v 0 (p .room) ∙ e)
 
-  module _ (s : ℕ) (es : s ≡ base (leb (getD ms (x .a) 0) 2)) where
-    start-is : s ≡ base (isType ws (fieldA ws r))
-    start-is = es ∙ ap base element-mark
+  module _ (s : ℕ) (es : s ≡ countedFrom (leb (getD ms (x .a) 0) TYPE-HIGH)) where
+    start-is : s ≡ countedFrom (isType ws (fieldA ws r))
+    start-is = es ∙ ap countedFrom element-mark
 
-    start-low : s ≤ 32
-    start-low = let h = base-high (isType ws (fieldA ws r)) in let e = start-is in omega arith
+    start-low : s ≤ LIST-OF-TERMS
+    start-low = let h = from-high (isType ws (fieldA ws r)) in let e = start-is in omega arith
 
     pub one-fits : Fits w8 (s + 1)
     one-fits = let h = start-low in record { fits = omega arith }
 
-    pub most-fits : Fits w8 (s + 16)
+    pub most-fits : Fits w8 (s + MOST-CELLS)
     most-fits = let h = start-low in record { fits = omega arith }
 
-    pub list-one : x .b ≡ NONE → ListSays ws (set ms r (s + 1)) r true
+    pub list-one : x .b ≡ NONE → CellSays ws (set ms r (s + 1)) r true
     unfolding listed alike has either both
     list-one z = record {
       answer = rw (p .cell, eq-eqb (fieldB ws r) NONE (sym (w .b-is) ∙ z), ← length-one);
       next = λ _. marked-here (s + 1) (rw start-is (sym (kind-cell ws r (p .cell) ∙ rw (← length-one))));
     }
       where
-        length-one : 1 ≡ length (cells 17 ws r)
-        length-one = rw (cells-more 16 ws r real, cells-none 16 ws (fieldB ws r) (sym (w .b-is) ∙ z))
+        length-one : 1 ≡ cellCount ws r
+        length-one = rw (cells-more MOST-CELLS ws r real, cells-none MOST-CELLS ws (fieldB ws r) (sym (w .b-is) ∙ z))
 
     module _ (z : x .b ≡ NONE → ⊥) where
       some-rest : fieldB ws r ≡ NONE → ⊥
@@ -154,24 +155,24 @@ module _ (ws ms : List ℕ) (r : ℕ) (p : ListAsks ws ms r) (x : Record) (w : I
 
       -- how many cells the rest has
       abbrev count : ℕ
-      count = length (cells 17 ws (fieldB ws r))
+      count = cellCount ws (fieldB ws r)
 
-      rest-mark : getD ms (x .b) 0 ≡ base (isType ws (fieldA ws (fieldB ws r))) + count + 128
+      rest-mark : getD ms (x .b) 0 ≡ countedFrom (isType ws (fieldA ws (fieldB ws r))) + count + REFERRED
       unfolding shape shapes both
       rest-mark =
           let q = rest-low in
           let e : shape ws r .1 ≡ rest = rw (p .cell) in
           let m = mark-used ws (used ws (r + 1)) (fieldB ws r) (rw (cell-counts ws (fieldB ws r) (q .1), rest-used ws r e some-rest (q .1))) in
-          rw (w .b-is) (p .known .marked (fieldB ws r) (q .0) ∙ m ∙ ap (λ k. k + 128) (kind-cell ws (fieldB ws r) (q .1)))
+          rw (w .b-is) (p .known .marked (fieldB ws r) (q .0) ∙ m ∙ ap (λ k. k + REFERRED) (kind-cell ws (fieldB ws r) (q .1)))
 
-      pub rest-used-mark : 128 ≤ getD ms (x .b) 0
+      pub rest-used-mark : REFERRED ≤ getD ms (x .b) 0
       rest-used-mark = let e = rest-mark in omega arith
 
-      length-more : suc count ≡ length (cells 17 ws r)
+      length-more : suc count ≡ cellCount ws r
       length-more =
           let q = rest-low in
-          let l = cells-short 16 ws (fieldB ws r) (short ws r (p .above .lower) (fieldB ws r) (q .0) (q .1)) in
-          rw (cells-more 16 ws r real, l)
+          let l = cells-short MOST-CELLS ws (fieldB ws r) (short ws r (p .above .lower) (fieldB ws r) (q .0) (q .1)) in
+          rw (cells-more MOST-CELLS ws r real, l)
 
       listed-is : listed ws r ≡ joins (isType ws (fieldA ws r)) (isType ws (fieldA ws (fieldB ws r))) count
       unfolding listed alike joins has either
@@ -188,32 +189,32 @@ module _ (ws ms : List ℕ) (r : ℕ) (p : ListAsks ws ms r) (x : Record) (w : I
       one-cell : 1 ≤ count
       one-cell = let q = rest-low in let f = p .above .few in some ws r (p .above .lower) (fieldB ws r) (q .0) (q .1) (omega arith)
 
-      few-cells : count ≤ 16
+      few-cells : count ≤ MOST-CELLS
       few-cells = let q = rest-low in short ws r (p .above .lower) (fieldB ws r) (q .0) (q .1)
 
-      refused : joins (isType ws (fieldA ws r)) (isType ws (fieldA ws (fieldB ws r))) count ≡ false → ListSays ws ms r false
+      refused : joins (isType ws (fieldA ws r)) (isType ws (fieldA ws (fieldB ws r))) count ≡ false → CellSays ws ms r false
       refused e = record { answer = sym (listed-is ∙ e); next = λ q. absurd (false-true q) }
 
-      pub list-low : getD ms (x .b) 0 - 128 ≤ s → ListSays ws ms r false
+      pub list-low : getD ms (x .b) 0 - REFERRED ≤ s → CellSays ws ms r false
       list-low h =
           let e = start-is in
           let m = rest-mark in
           refused (mark-below count one-cell few-cells (isType ws (fieldA ws r)) (isType ws (fieldA ws (fieldB ws r))) (omega arith))
 
-      pub list-long : s + 16 ≤ getD ms (x .b) 0 - 128 → ListSays ws ms r false
+      pub list-long : s + MOST-CELLS ≤ getD ms (x .b) 0 - REFERRED → CellSays ws ms r false
       list-long h =
           let e = start-is in
           let m = rest-mark in
           refused (mark-above count one-cell few-cells (isType ws (fieldA ws r)) (isType ws (fieldA ws (fieldB ws r))) (omega arith))
 
-      pub more-fits : Fits w8 (getD ms (x .b) 0 - 128 + 1)
+      pub more-fits : Fits w8 (getD ms (x .b) 0 - REFERRED + 1)
       more-fits =
-          let h = base-high (isType ws (fieldA ws (fieldB ws r))) in
+          let h = from-high (isType ws (fieldA ws (fieldB ws r))) in
           let m = rest-mark in
           let f = few-cells in
           record { fits = omega arith }
 
-      pub list-more : s < getD ms (x .b) 0 - 128 → getD ms (x .b) 0 - 128 < s + 16 → ListSays ws (set ms r (getD ms (x .b) 0 - 128 + 1)) r true
+      pub list-more : s < getD ms (x .b) 0 - REFERRED → getD ms (x .b) 0 - REFERRED < s + MOST-CELLS → CellSays ws (set ms r (getD ms (x .b) 0 - REFERRED + 1)) r true
       list-more a b =
           let e = start-is in
           let m = rest-mark in

@@ -1,5 +1,5 @@
 -- The kind of a record, as its mark tells it: ranges of numbers for tags, for lists of types and for lists of terms.
-use Prim.Native.Nat.{ℕ, _+_, _<_, _≤_}
+use Prim.Native.Nat.{ℕ, suc, _+_, _<_, _≤_}
 use mathlib.Core.Path.{_≡_, refl, sym, ap, _∙_}
 use mathlib.Core.Bool.{Bool, true, false, not}
 use mathlib.Core.List.{List}
@@ -10,12 +10,13 @@ use borrow.Author.Tests.{ltb-true, ltb-false, leb-true, eq-eqb, ne-eqb, lt-leb, 
 use lib.ListN.{length, List·getD-eq-default}
 use lib.Dec.{eqb, ltb, leb}
 use Rattle.rules.specs.Lists.{both, either}
-use Rattle.rules.specs.Words.{CE, tag, fieldA, has, isType, isTerm, cells}
+use Rattle.rules.specs.Words.{CE, EQ, tag, fieldA, has, isType, isTerm}
 use Rattle.rules.specs.Records.{never, shapes, shape, fits, shaped, alike, listed, keeps}
 use Rattle.laws.specs.Tests.{false-true, both-true, both-no, either-true}
 use Rattle.laws.specs.Sound.{Sound, type-term}
 use Rattle.laws.specs.Lists.{cells-more}
-use Rattle.records.specs.Marks.{within, base, kind}
+use Rattle.records.specs.Ranges.{TYPE-LOW, TYPE-HIGH, TERM-LOW, TERM-HIGH, MOST-CELLS, LIST-OF-TYPES, TYPES-LOW, TYPES-HIGH, TERMS-LOW, TERMS-HIGH}
+use Rattle.records.specs.Marks.{countedFrom, cellCount, kind, within}
 use Rattle.records.proofs.Joined.{both-yes}
 
 -- Ranges
@@ -54,13 +55,13 @@ within-one t k = go (ℕ-discrete k t)
 
 -- Kinds
 
-base-low : (t : Bool) → 16 ≤ base t
-unfolding base
-base-low true = omega arith
-base-low false = omega arith
+from-low : (t : Bool) → LIST-OF-TYPES ≤ countedFrom t
+unfolding countedFrom
+from-low true = omega arith
+from-low false = omega arith
 
 module _ (ws : List ℕ) (x : ℕ) where
-  pub kind-cell : tag ws x ≡ CE → kind ws x ≡ base (isType ws (fieldA ws x)) + length (cells 17 ws x)
+  pub kind-cell : tag ws x ≡ CE → kind ws x ≡ countedFrom (isType ws (fieldA ws x)) + cellCount ws x
   unfolding kind has
   kind-cell e = rw (eq-eqb _ _ e, kind)
 
@@ -69,24 +70,24 @@ module _ (ws : List ℕ) (x : ℕ) where
   kind-other z = rw (ne-eqb _ _ z, kind)
 
   -- a range of tags without that of cells
-  kind-tags : (low high : ℕ) → high < 16 → within low high CE ≡ false → within low high (kind ws x) ≡ within low high (tag ws x)
+  kind-tags : (low high : ℕ) → high < LIST-OF-TYPES → within low high CE ≡ false → within low high (kind ws x) ≡ within low high (tag ws x)
   kind-tags low high h e = go (ℕ-discrete (tag ws x) CE)
     where
       go : Dec (tag ws x ≡ CE) → within low high (kind ws x) ≡ within low high (tag ws x)
       go (yes c) =
           let k = kind-cell c in
-          let b = base-low (isType ws (fieldA ws x)) in
+          let b = from-low (isType ws (fieldA ws x)) in
           within-high low high (kind ws x) (omega arith) ∙ sym (rw c e)
       go (no c) = ap (within low high) (kind-other c)
 
-  pub kind-type : within 1 2 (kind ws x) ≡ isType ws x
-  kind-type = kind-tags 1 2 (omega arith) (within-high 1 2 5 (omega arith)) ∙ (unfold within in unfold isType in refl)
+  pub kind-type : within TYPE-LOW TYPE-HIGH (kind ws x) ≡ isType ws x
+  kind-type = kind-tags TYPE-LOW TYPE-HIGH (omega arith) (within-high TYPE-LOW TYPE-HIGH CE (omega arith)) ∙ (unfold within in unfold isType in refl)
 
-  pub kind-term : within 6 9 (kind ws x) ≡ isTerm ws x
-  kind-term = kind-tags 6 9 (omega arith) (within-low 6 9 5 (omega arith)) ∙ (unfold within in unfold isTerm in refl)
+  pub kind-term : within TERM-LOW TERM-HIGH (kind ws x) ≡ isTerm ws x
+  kind-term = kind-tags TERM-LOW TERM-HIGH (omega arith) (within-low TERM-LOW TERM-HIGH CE (omega arith)) ∙ (unfold within in unfold isTerm in refl)
 
   pub kind-tag : (t : ℕ) → t < CE → within t t (kind ws x) ≡ has ws x t
-  kind-tag t h = kind-tags t t (omega arith) (within-high t t 5 h) ∙ within-one t (tag ws x) ∙ (unfold has in refl)
+  kind-tag t h = kind-tags t t (omega arith) (within-high t t CE h) ∙ within-one t (tag ws x) ∙ (unfold has in refl)
 
 -- an element is a type or a term
 module _ (ws : List ℕ) (x : ℕ) (h : shaped ws x ≡ true) (e : tag ws x ≡ CE) where
@@ -110,33 +111,33 @@ module _ (ws : List ℕ) (r : ℕ) (g : Sound ws r) (x : ℕ) (h : x < r) where
   unfolding keeps
   shaped-so = both-true _ _ (g x h) .0
 
-  known : tag ws x ≤ 10
+  known : tag ws x ≤ EQ
   unfolding shape shapes shaped fits both
-  known = go (ltb (tag ws x) 11) refl
+  known = go (ltb (tag ws x) (suc EQ)) refl
     where
-      none : 11 ≤ tag ws x → shape ws x ≡ (never, never, never)
+      none : EQ < tag ws x → shape ws x ≡ (never, never, never)
       none l = let m : length shapes ≤ tag ws x = omega arith in List·getD-eq-default shapes (never, never, never) m
 
-      go : (b : Bool) → ltb (tag ws x) 11 ≡ b → tag ws x ≤ 10
-      go true q = let l = ltb-true (tag ws x) 11 q in omega arith
+      go : (b : Bool) → ltb (tag ws x) (suc EQ) ≡ b → tag ws x ≤ EQ
+      go true q = let l = ltb-true (tag ws x) (suc EQ) q in omega arith
       go false q = absurd (false-true (rw (none (ltb-false _ _ q)) at shaped-so))
 
   module _ (e : tag ws x ≡ CE) where
-    -- a list that begins below r has at most 16 cells
-    pub short : length (cells 17 ws x) ≤ 16
+    -- a list that begins below r is not too long
+    pub short : cellCount ws x ≤ MOST-CELLS
     unfolding keeps listed has
     short = go (either-true _ _ (both-true _ _ (both-true _ _ (g x h) .1) .0))
       where
-        go : (not (eqb (tag ws x) CE) ≡ true) ⊎ (both (alike ws x) (leb (length (cells 17 ws x)) 16) ≡ true) → length (cells 17 ws x) ≤ 16
+        go : (not (eqb (tag ws x) CE) ≡ true) ⊎ (both (alike ws x) (leb (cellCount ws x) MOST-CELLS) ≡ true) → cellCount ws x ≤ MOST-CELLS
         go (inl z) = absurd (false-true (rw e at z))
         go (inr z) = leb-true _ _ (both-true _ _ z .1)
 
-    pub some : r ≤ 4096 → 1 ≤ length (cells 17 ws x)
-    some f = let q = ap length (cells-more 16 ws x (λ z. omega arith)) in omega arith
+    pub some : r ≤ 4096 → 1 ≤ cellCount ws x
+    some f = let q = ap length (cells-more MOST-CELLS ws x (λ z. omega arith)) in omega arith
 
   module _ (f : r ≤ 4096) where
     -- a range of lists
-    kind-lists : (low high : ℕ) (ok : Bool → Bool) → 10 < low → ((t : Bool) (k : ℕ) → 1 ≤ k → k ≤ 16 → within low high (base t + k) ≡ ok t)
+    kind-lists : (low high : ℕ) (ok : Bool → Bool) → EQ < low → ((t : Bool) (k : ℕ) → 1 ≤ k → k ≤ MOST-CELLS → within low high (countedFrom t + k) ≡ ok t)
         → within low high (kind ws x) ≡ both (has ws x CE) (ok (isType ws (fieldA ws x)))
     unfolding has
     kind-lists low high ok l each = go (ℕ-discrete (tag ws x) CE)
@@ -148,30 +149,30 @@ module _ (ws : List ℕ) (r : ℕ) (g : Sound ws r) (x : ℕ) (h : x < r) where
             let m = known in
             within-low low high (kind ws x) (omega arith) ∙ (unfold both in rw (ne-eqb _ _ c))
 
-    pub kind-types : within 17 32 (kind ws x) ≡ both (has ws x CE) (isType ws (fieldA ws x))
-    unfolding base
-    kind-types = kind-lists 17 32 (λ t. t) (omega arith) each
+    pub kind-types : within TYPES-LOW TYPES-HIGH (kind ws x) ≡ both (has ws x CE) (isType ws (fieldA ws x))
+    unfolding countedFrom
+    kind-types = kind-lists TYPES-LOW TYPES-HIGH (λ t. t) (omega arith) each
       where
-        each : (t : Bool) (k : ℕ) → 1 ≤ k → k ≤ 16 → within 17 32 (base t + k) ≡ t
-        each true k a b = within-in 17 32 _ (omega arith) (omega arith)
-        each false k a b = within-high 17 32 _ (omega arith)
+        each : (t : Bool) (k : ℕ) → 1 ≤ k → k ≤ MOST-CELLS → within TYPES-LOW TYPES-HIGH (countedFrom t + k) ≡ t
+        each true k a b = within-in TYPES-LOW TYPES-HIGH _ (omega arith) (omega arith)
+        each false k a b = within-high TYPES-LOW TYPES-HIGH _ (omega arith)
 
-    pub kind-terms : within 33 48 (kind ws x) ≡ both (has ws x CE) (isTerm ws (fieldA ws x))
-    unfolding base has both
-    kind-terms = kind-lists 33 48 not (omega arith) each ∙ same (ℕ-discrete (tag ws x) CE)
+    pub kind-terms : within TERMS-LOW TERMS-HIGH (kind ws x) ≡ both (has ws x CE) (isTerm ws (fieldA ws x))
+    unfolding countedFrom has both
+    kind-terms = kind-lists TERMS-LOW TERMS-HIGH not (omega arith) each ∙ same (ℕ-discrete (tag ws x) CE)
       where
-        each : (t : Bool) (k : ℕ) → 1 ≤ k → k ≤ 16 → within 33 48 (base t + k) ≡ not t
-        each true k a b = within-low 33 48 _ (omega arith)
-        each false k a b = within-in 33 48 _ (omega arith) (omega arith)
+        each : (t : Bool) (k : ℕ) → 1 ≤ k → k ≤ MOST-CELLS → within TERMS-LOW TERMS-HIGH (countedFrom t + k) ≡ not t
+        each true k a b = within-low TERMS-LOW TERMS-HIGH _ (omega arith)
+        each false k a b = within-in TERMS-LOW TERMS-HIGH _ (omega arith) (omega arith)
 
         same : Dec (tag ws x ≡ CE) → both (has ws x CE) (not (isType ws (fieldA ws x))) ≡ both (has ws x CE) (isTerm ws (fieldA ws x))
         same (yes c) = rw (other-kind ws x shaped-so c)
         same (no c) = rw (ne-eqb _ _ c)
 
-    pub kind-cells : within 17 48 (kind ws x) ≡ has ws x CE
-    unfolding base
-    kind-cells = kind-lists 17 48 (λ t. true) (omega arith) each ∙ both-yes (has ws x CE)
+    pub kind-cells : within TYPES-LOW TERMS-HIGH (kind ws x) ≡ has ws x CE
+    unfolding countedFrom
+    kind-cells = kind-lists TYPES-LOW TERMS-HIGH (λ t. true) (omega arith) each ∙ both-yes (has ws x CE)
       where
-        each : (t : Bool) (k : ℕ) → 1 ≤ k → k ≤ 16 → within 17 48 (base t + k) ≡ true
-        each true k a b = within-in 17 48 _ (omega arith) (omega arith)
-        each false k a b = within-in 17 48 _ (omega arith) (omega arith)
+        each : (t : Bool) (k : ℕ) → 1 ≤ k → k ≤ MOST-CELLS → within TYPES-LOW TERMS-HIGH (countedFrom t + k) ≡ true
+        each true k a b = within-in TYPES-LOW TERMS-HIGH _ (omega arith) (omega arith)
+        each false k a b = within-in TYPES-LOW TERMS-HIGH _ (omega arith) (omega arith)

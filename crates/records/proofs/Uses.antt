@@ -11,40 +11,41 @@ use lib.ListN.{length, getD, set, length-set}
 use lib.Seq.{getD-set-same, getD-set-other}
 use lib.Dec.{eqb, ltb}
 use Rattle.rules.specs.Lists.{both, either, any, among, those}
-use Rattle.rules.specs.Words.{NONE, CE, tag, fieldA, fieldB, fieldC, has, isType, isTerm}
+use Rattle.rules.specs.Words.{NONE, AR, CE, LA, HA, tag, fieldA, fieldB, fieldC, has, isType, isTerm}
 use Rattle.rules.specs.Records.{rest, shape, listOf, fits, first-cell, reference, uses}
 use Rattle.laws.specs.Tests.{false-true, both-true, both-no}
 use Rattle.records.specs.declared.Field.{Field}
 use Rattle.records.specs.declared.Field.the-variants.{Nil, Any, Small, OfType, OfBase, OfConstant, OfHole, OfTerm, Types, Terms, Element, Rest}
 use Rattle.records.specs.Kinds.{field, refersTo}
+use Rattle.records.specs.Ranges.{REFERRED}
 use Rattle.records.specs.Marks.{counts, kind, mark, Marked, used, fresh, one, reference-of, referred}
 use Rattle.records.proofs.Joined.{among-append}
 use Rattle.laws.specs.Noted.{those-append}
 
--- Records of tag 5 to 9
+-- Records of tag CE to HA
 
 module _ (ws : List ℕ) (x : ℕ) where
-  uncounted : tag ws x < 5 → counts ws x ≡ false
+  uncounted : tag ws x < CE → counts ws x ≡ false
   unfolding counts both
-  uncounted h = rw (lt-leb 5 (tag ws x) h)
+  uncounted h = rw (lt-leb CE (tag ws x) h)
 
-  counted : 5 ≤ tag ws x → tag ws x ≤ 9 → counts ws x ≡ true
+  counted : CE ≤ tag ws x → tag ws x ≤ HA → counts ws x ≡ true
   unfolding counts both
-  counted a b = rw (le-leb 5 (tag ws x) a, le-leb (tag ws x) 9 b)
+  counted a b = rw (le-leb CE (tag ws x) a, le-leb (tag ws x) HA b)
 
   pub type-counts : isType ws x ≡ true → counts ws x ≡ false
   unfolding isType
-  type-counts e = let h = leb-true (tag ws x) 2 (both-true _ _ e .1) in uncounted (omega arith)
+  type-counts e = let h = leb-true (tag ws x) AR (both-true _ _ e .1) in uncounted (omega arith)
 
-  pub tag-counts : (t : ℕ) → t < 5 → has ws x t ≡ true → counts ws x ≡ false
+  pub tag-counts : (t : ℕ) → t < CE → has ws x t ≡ true → counts ws x ≡ false
   unfolding has
   tag-counts t h e = let q = eqb-true (tag ws x) t e in uncounted (omega arith)
 
   pub term-counts : isTerm ws x ≡ true → counts ws x ≡ true
   unfolding isTerm
   term-counts e =
-      let a = leb-true 6 (tag ws x) (both-true _ _ e .0) in
-      let b = leb-true (tag ws x) 9 (both-true _ _ e .1) in
+      let a = leb-true LA (tag ws x) (both-true _ _ e .0) in
+      let b = leb-true (tag ws x) HA (both-true _ _ e .1) in
       counted (omega arith) (omega arith)
 
   pub cell-counts : tag ws x ≡ CE → counts ws x ≡ true
@@ -137,7 +138,7 @@ module _ (ws : List ℕ) (r x : ℕ) where
 -- Marks
 
 module _ (ws u : List ℕ) (x : ℕ) where
-  pub mark-used : both (counts ws x) (among u x) ≡ true → mark ws u x ≡ kind ws x + 128
+  pub mark-used : both (counts ws x) (among u x) ≡ true → mark ws u x ≡ kind ws x + REFERRED
   unfolding mark
   mark-used e = rw (e, mark)
 
@@ -180,7 +181,7 @@ module _ (ws ms u : List ℕ) (r : ℕ) (p : Marked ws ms u r) where
       go x (no q) h = p .marked x (omega arith)
 
 -- a record that counts is referred to
-marked-new : (ws ms u : List ℕ) (r x : ℕ) → x < r → counts ws x ≡ true → among u x ≡ false → Marked ws ms u r → Marked ws (set ms x (getD ms x 0 + 128)) (x ∷ u) r
+marked-new : (ws ms u : List ℕ) (r x : ℕ) → x < r → counts ws x ≡ true → among u x ≡ false → Marked ws ms u r → Marked ws (set ms x (getD ms x 0 + REFERRED)) (x ∷ u) r
 unfolding both
 marked-new ws ms u r x h c n p = record {
   room = simp length-set (p .room);
@@ -191,11 +192,11 @@ marked-new ws ms u r x h c n p = record {
     own : getD ms x 0 ≡ kind ws x
     own = p .marked x h ∙ mark-unused ws u x (rw (c, n))
 
-    go : (y : ℕ) → Dec (y ≡ x) → y < r → getD (set ms x (getD ms x 0 + 128)) y 0 ≡ mark ws (x ∷ u) y
+    go : (y : ℕ) → Dec (y ≡ x) → y < r → getD (set ms x (getD ms x 0 + REFERRED)) y 0 ≡ mark ws (x ∷ u) y
     go y (yes e) l =
         let m = p .room in
-        rw e (getD-set-same ms x (getD ms x 0 + 128) 0 (omega arith) ∙ rw own (sym (mark-used ws (x ∷ u) x (rw (c, among-here u x x refl)))))
-    go y (no e) l = getD-set-other ms x y (getD ms x 0 + 128) 0 e ∙ p .marked y l ∙ sym (mark-same ws (x ∷ u) u y (among-other u x y e))
+        rw e (getD-set-same ms x (getD ms x 0 + REFERRED) 0 (omega arith) ∙ rw own (sym (mark-used ws (x ∷ u) x (rw (c, among-here u x x refl)))))
+    go y (no e) l = getD-set-other ms x y (getD ms x 0 + REFERRED) 0 e ∙ p .marked y l ∙ sym (mark-same ws (x ∷ u) u y (among-other u x y e))
 
 -- the marks where x is referred to, if it counts
 pub marked-referred : (ws ms u : List ℕ) (r x : ℕ) (d : Bool) → (d ≡ true → (x < r) × (counts ws x ≡ true)) → fresh u (one d x) ≡ true

@@ -25,7 +25,7 @@ pub record Chains (la be ws : List ℕ) (r : ℕ) : Type 0 where
   pub before : (j : ℕ) → j < r → isType ws j ≡ true → getD be j 0 ≡ latest ws (fieldB ws j) j
 
 -- record r is a type, and the chains below it are known
-pub record TypeAsks (ws la be : List ℕ) (r : ℕ) : Type 0 where
+pub record ChainAsks (ws la be : List ℕ) (r : ℕ) : Type 0 where
   pub inside : 4 * r + 3 < length ws
   pub few : r < 4096
   pub type : isType ws r ≡ true
@@ -35,6 +35,6 @@ pub record TypeAsks (ws la be : List ℕ) (r : ℕ) : Type 0 where
   pub known : Chains la be ws r
 
 -- the answer for record r, and the chains up to it
-pub record TypeSays (ws la be : List ℕ) (r : ℕ) (b : Bool) : Type 0 where
+pub record ChainSays (ws la be : List ℕ) (r : ℕ) (b : Bool) : Type 0 where
   pub answer : b ≡ new-type ws r
   pub next : b ≡ true → Chains la be ws (r + 1)

@@ -5,7 +5,7 @@ use mathlib.Core.Bool.{Bool, true}
 use mathlib.Core.List.{List}
 use lib.ListN.{length, getD}
 use Rattle.rules.specs.Lists.{both}
-use Rattle.rules.specs.Words.{tag}
+use Rattle.rules.specs.Words.{EQ, tag}
 use Rattle.rules.specs.Records.{shape, shaped, first-use, keeps}
 use Rattle.laws.specs.Sound.{Sound}
 use Rattle.records.specs.declared.Field.{Field}
@@ -17,7 +17,7 @@ use Rattle.records.specs.Chains.{Chains}
 pub record RowAsks (ws ms : List ℕ) (r : ℕ) (a b c : Field) : Type 0 where
   pub above : Above ws r
   pub row : shape ws r ≡ (field a, field b, field c)
-  pub tag-low : tag ws r ≤ 10
+  pub tag-low : tag ws r ≤ EQ
   pub room : r < length ms
   pub known : Marked ws ms (used ws r) r
 

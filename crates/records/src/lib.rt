@@ -1,19 +1,62 @@
 // Records (5): the lowest record that breaks a rule of the records section, in one pass with a mark for each record.
 //
-// The mark of a record that keeps the rules is its tag, 1 to 10; for a cell it is the number of cells of the list that begins there, and 16 more for types,
-// 32 more for terms. A record that may be referred to once only, which is one of tag 5 to 9, has 128 more when it is. So one mark judges a field.
+// The mark of a record that keeps the rules is its tag; for a cell it is the number of cells of the list that begins there, counted from LIST_OF_TYPES or
+// from LIST_OF_TERMS. A record that may be referred to once only, which is one of tag CE to HA, has REFERRED more when it is. So one mark judges a field.
+use table::AR;
+use table::BT;
+use table::CA;
+use table::CE;
 use table::EQ;
+use table::HA;
+use table::HO;
+use table::KO;
+use table::LA;
 use table::NONE;
 use table::Record;
+use table::VA;
 use table::read;
 ghost use mathlib.Core.Path.{_≡_};
 ghost use Prim.Native.Nat.{_+_, _*_, _<_, _≤_};
 ghost use lib.ListN.{length};
 ghost use lib.Dec.{leb};
-ghost use Rattle.records.specs.Marks.{base, markBelow, lies, ReferAsks, ReferSays, BeginSays, FieldSays, ListAsks, ListSays};
-ghost use Rattle.records.specs.Chains.{equals, TypeAsks, TypeSays};
+ghost use Rattle.records.specs.Ranges.{TYPE-HIGH};
+ghost use Rattle.records.specs.Marks.{countedFrom, lowerMark, lies, ReferredAsks, ReferredSays, FirstCellSays, FieldSays, CellAsks, CellSays};
+ghost use Rattle.records.specs.Chains.{equals, ChainAsks, ChainSays};
 ghost use Rattle.records.specs.Rows.{RowAsks, RowSays, RecordAsks, RecordSays, BrokenAsks};
 ghost use Rattle.records.specs.Noting.{NoteAsks, Noted, BrokenSays};
+
+// The marks of a type, of those that are base types, of a constant, a hole, a term.
+const TYPE_LOW: u8 = BT as u8;
+
+const TYPE_HIGH: u8 = AR as u8;
+
+const BASE_TYPE: u8 = BT as u8;
+
+const CONSTANT: u8 = KO as u8;
+
+const HOLE: u8 = HO as u8;
+
+const TERM_LOW: u8 = LA as u8;
+
+const TERM_HIGH: u8 = HA as u8;
+
+// The marks of the cells that begin a list of types, or of terms, by its length.
+const MOST_CELLS: u8 = 16;
+
+const LIST_OF_TYPES: u8 = 16;
+
+const LIST_OF_TERMS: u8 = 32;
+
+const TYPES_LOW: u8 = LIST_OF_TYPES + 1;
+
+const TYPES_HIGH: u8 = LIST_OF_TYPES + MOST_CELLS;
+
+const TERMS_LOW: u8 = LIST_OF_TERMS + 1;
+
+const TERMS_HIGH: u8 = LIST_OF_TERMS + MOST_CELLS;
+
+// A record that is referred to has this much more.
+const REFERRED: u8 = 128;
 
 // What one pass over the records says: the lowest broken one, or how many equations there are.
 pub enum Pass {
@@ -49,11 +92,11 @@ fn equal(table: &[u32], j: u32, x: Record) -> bool
     y.a == x.a
 }
 
-// No earlier type record equals this one, which joins its chain. Equal types have equal b, so the types with this b are compared, from the latest
-// down: last[b] is one more than its number, before[j] one more than that of the one before j, 0 is the chain's end.
-fn new_type(table: &[u32], last: &mut [u16], before: &mut [u16], r: u32) -> bool
-    requires { ⌜ TypeAsks (now table) (now last) (now before) r ⌝ }
-    ensures { λ b. ⌜ TypeSays (now (table .entry)) (now (last .exit)) (now (before .exit)) r b ⌝ }
+// Record r, a type, joins its chain if no earlier type record equals it; true if so. Equal types have equal b, so the types with this b are compared,
+// from the latest down: last[b] is one more than its number, before[j] one more than that of the one before j, 0 is the chain's end.
+fn join_chain(table: &[u32], last: &mut [u16], before: &mut [u16], r: u32) -> bool
+    requires { ⌜ ChainAsks (now table) (now last) (now before) r ⌝ }
+    ensures { λ b. ⌜ ChainSays (now (table .entry)) (now (last .exit)) (now (before .exit)) r b ⌝ }
 {
     let x = read(table, r);
     let key = x.b as usize;
@@ -72,9 +115,9 @@ fn new_type(table: &[u32], last: &mut [u16], before: &mut [u16], r: u32) -> bool
 }
 
 // The mark of a lower record, or 0.
-fn mark_below(marks: &[u8], r: u32, x: u32) -> u8
+fn lower_mark(marks: &[u8], r: u32, x: u32) -> u8
     requires { ⌜ r ≤ length (now marks) ⌝ }
-    ensures { λ m. ⌜ m ≡ markBelow (now (marks .entry)) r x ⌝ }
+    ensures { λ m. ⌜ m ≡ lowerMark (now (marks .entry)) r x ⌝ }
 {
     if x < r {
         let at = x as usize;
@@ -89,16 +132,16 @@ fn lies(marks: &[u8], r: u32, low: u8, high: u8, x: u32) -> bool
     requires { ⌜ r ≤ length (now marks) ⌝ }
     ensures { λ b. ⌜ b ≡ lies (now (marks .entry)) r low high x ⌝ }
 {
-    let m = mark_below(marks, r, x);
+    let m = lower_mark(marks, r, x);
     if m < low { false } else { m <= high }
 }
 
-// The mark of a lower record is from low to high, so that nothing refers to it yet; now something does.
-fn refers(marks: &mut [u8], r: u32, low: u8, high: u8, x: u32) -> bool
-    requires { ⌜ ReferAsks (now marks) r low high ⌝ }
-    ensures { λ b. ⌜ ReferSays (now (marks .entry)) (now (marks .exit)) r low high x b ⌝ }
+// Marks record x as referred to if it is lower and its mark is from low to high, so that nothing refers to it yet; true if so.
+fn mark_referred(marks: &mut [u8], r: u32, low: u8, high: u8, x: u32) -> bool
+    requires { ⌜ ReferredAsks (now marks) r low high ⌝ }
+    ensures { λ b. ⌜ ReferredSays (now (marks .entry)) (now (marks .exit)) r low high x b ⌝ }
 {
-    let m = mark_below(marks, r, x);
+    let m = lower_mark(marks, r, x);
     if m < low {
         return false;
     }
@@ -106,23 +149,23 @@ fn refers(marks: &mut [u8], r: u32, low: u8, high: u8, x: u32) -> bool
         return false;
     }
     let at = x as usize;
-    marks[at] = m + 128;
+    marks[at] = m + REFERRED;
     true
 }
 
-// A list is empty, or a reference to its first cell.
-fn begins(marks: &mut [u8], r: u32, low: u8, high: u8, x: u32) -> bool
-    requires { ⌜ ReferAsks (now marks) r low high ⌝ }
-    ensures { λ b. ⌜ BeginSays (now (marks .entry)) (now (marks .exit)) r low high x b ⌝ }
+// Marks the first cell of list x as referred to, in the same way; true if so, or if the list is empty.
+fn mark_first_cell(marks: &mut [u8], r: u32, low: u8, high: u8, x: u32) -> bool
+    requires { ⌜ ReferredAsks (now marks) r low high ⌝ }
+    ensures { λ b. ⌜ FirstCellSays (now (marks .entry)) (now (marks .exit)) r low high x b ⌝ }
 {
     if x == NONE {
         return true;
     }
-    refers(marks, r, low, high, x)
+    mark_referred(marks, r, low, high, x)
 }
 
-// A field of record r holds what it can, and its reference is no second one.
-fn field_keeps(marks: &mut [u8], r: u32, f: Field, x: u32) -> bool
+// Marks what a field of record r refers to, if that counts; true if the field holds what it can and its reference is no second one.
+fn mark_field(marks: &mut [u8], r: u32, f: Field, x: u32) -> bool
     requires { ⌜ r ≤ length (now marks) ⌝ }
     ensures { λ b. ⌜ FieldSays (now (marks .entry)) (now (marks .exit)) r f x b ⌝ }
 {
@@ -130,31 +173,32 @@ fn field_keeps(marks: &mut [u8], r: u32, f: Field, x: u32) -> bool
         Field::Nil => x == 0,
         Field::Any => true,
         Field::Small => x < 4096,
-        Field::OfType => lies(marks, r, 1, 2, x),
-        Field::OfBase => lies(marks, r, 1, 1, x),
-        Field::OfConstant => lies(marks, r, 3, 3, x),
-        Field::OfHole => lies(marks, r, 4, 4, x),
-        Field::OfTerm => refers(marks, r, 6, 9, x),
-        Field::Types => begins(marks, r, 17, 32, x),
-        Field::Terms => begins(marks, r, 33, 48, x),
-        Field::Element => lies(marks, r, 1, 2, x) || refers(marks, r, 6, 9, x),
-        Field::Rest => begins(marks, r, 17, 48, x),
+        Field::OfType => lies(marks, r, TYPE_LOW, TYPE_HIGH, x),
+        Field::OfBase => lies(marks, r, BASE_TYPE, BASE_TYPE, x),
+        Field::OfConstant => lies(marks, r, CONSTANT, CONSTANT, x),
+        Field::OfHole => lies(marks, r, HOLE, HOLE, x),
+        Field::OfTerm => mark_referred(marks, r, TERM_LOW, TERM_HIGH, x),
+        Field::Types => mark_first_cell(marks, r, TYPES_LOW, TYPES_HIGH, x),
+        Field::Terms => mark_first_cell(marks, r, TERMS_LOW, TERMS_HIGH, x),
+        Field::Element => lies(marks, r, TYPE_LOW, TYPE_HIGH, x)
+            || mark_referred(marks, r, TERM_LOW, TERM_HIGH, x),
+        Field::Rest => mark_first_cell(marks, r, TYPES_LOW, TERMS_HIGH, x),
     }
 }
 
-// The fields a, b and c of a record, in order; its mark is its tag then.
-fn row_keeps(table: &[u32], marks: &mut [u8], r: u32, a: Field, b: Field, c: Field) -> bool
+// Marks what the fields a, b and c of a record refer to, in order, and then the record by its tag; true if all three are as asked.
+fn mark_row(table: &[u32], marks: &mut [u8], r: u32, a: Field, b: Field, c: Field) -> bool
     requires { ⌜ RowAsks (now table) (now marks) r a b c ⌝ }
     ensures { λ k. ⌜ RowSays (now (table .entry)) (now (marks .exit)) r k ⌝ }
 {
     let x = read(table, r);
-    if !field_keeps(marks, r, a, x.a) {
+    if !mark_field(marks, r, a, x.a) {
         return false;
     }
-    if !field_keeps(marks, r, b, x.b) {
+    if !mark_field(marks, r, b, x.b) {
         return false;
     }
-    if !field_keeps(marks, r, c, x.c) {
+    if !mark_field(marks, r, c, x.c) {
         return false;
     }
     let at = r as usize;
@@ -162,40 +206,44 @@ fn row_keeps(table: &[u32], marks: &mut [u8], r: u32, a: Field, b: Field, c: Fie
     true
 }
 
-// What the cells of a list are counted from, by the mark of its element: 16 for types, 32 for terms.
-fn base(element: u8) -> u8
-    ensures { λ b. ⌜ b ≡ base (leb element 2) ⌝ }
+// What the cells of a list are counted from, by the mark of its element.
+fn counted_from(element: u8) -> u8
+    ensures { λ b. ⌜ b ≡ countedFrom (leb element TYPE-HIGH) ⌝ }
 {
-    if element <= 2 { 16 } else { 32 }
+    if element <= TYPE_HIGH {
+        LIST_OF_TYPES
+    } else {
+        LIST_OF_TERMS
+    }
 }
 
-// A cell begins a list that is not mixed and has at most 16 cells; its length is marked.
-fn listed(table: &[u32], marks: &mut [u8], r: u32) -> bool
-    requires { ⌜ ListAsks (now table) (now marks) r ⌝ }
-    ensures { λ b. ⌜ ListSays (now (table .entry)) (now (marks .exit)) r b ⌝ }
+// Marks a cell by the length of the list that begins there if that is not mixed and has at most 16 cells; true if so.
+fn mark_cell(table: &[u32], marks: &mut [u8], r: u32) -> bool
+    requires { ⌜ CellAsks (now table) (now marks) r ⌝ }
+    ensures { λ b. ⌜ CellSays (now (table .entry)) (now (marks .exit)) r b ⌝ }
 {
     let x = read(table, r);
     let at = r as usize;
     let element = x.a as usize;
-    let start = base(marks[element]);
+    let start = counted_from(marks[element]);
     if x.b == NONE {
         marks[at] = start + 1;
         return true;
     }
     let rest = x.b as usize;
-    let count = marks[rest] - 128;
+    let count = marks[rest] - REFERRED;
     if count <= start {
         return false;
     }
-    if count < start + 16 {
+    if count < start + MOST_CELLS {
         marks[at] = count + 1;
         return true;
     }
     false
 }
 
-// A record keeps the rules; the arms are the records section's table, and an unknown tag has no row.
-fn record_keeps(
+// Marks a record and what it refers to; true if it keeps the rules. The arms are the records section's table, and an unknown tag has no row.
+fn mark_record(
     table: &[u32],
     marks: &mut [u8],
     last: &mut [u16],
@@ -208,19 +256,19 @@ fn record_keeps(
     let x = read(table, r);
     let k = x.tag;
     match k {
-        1 => row_keeps(table, marks, r, Field::Any, Field::Nil, Field::Nil)
-            && new_type(table, last, before, r),
-        2 => row_keeps(table, marks, r, Field::OfType, Field::OfType, Field::Nil)
-            && new_type(table, last, before, r),
-        3 => row_keeps(table, marks, r, Field::OfType, Field::Nil, Field::Nil),
-        4 => row_keeps(table, marks, r, Field::Types, Field::OfBase, Field::Nil),
-        5 => row_keeps(table, marks, r, Field::Element, Field::Rest, Field::Nil)
-            && listed(table, marks, r),
-        6 => row_keeps(table, marks, r, Field::OfTerm, Field::Nil, Field::Nil),
-        7 => row_keeps(table, marks, r, Field::OfConstant, Field::Terms, Field::Nil),
-        8 => row_keeps(table, marks, r, Field::Small, Field::Terms, Field::Nil),
-        9 => row_keeps(table, marks, r, Field::OfHole, Field::Terms, Field::Nil),
-        10 => row_keeps(table, marks, r, Field::OfTerm, Field::OfTerm, Field::OfType),
+        BT => mark_row(table, marks, r, Field::Any, Field::Nil, Field::Nil)
+            && join_chain(table, last, before, r),
+        AR => mark_row(table, marks, r, Field::OfType, Field::OfType, Field::Nil)
+            && join_chain(table, last, before, r),
+        KO => mark_row(table, marks, r, Field::OfType, Field::Nil, Field::Nil),
+        HO => mark_row(table, marks, r, Field::Types, Field::OfBase, Field::Nil),
+        CE => mark_row(table, marks, r, Field::Element, Field::Rest, Field::Nil)
+            && mark_cell(table, marks, r),
+        LA => mark_row(table, marks, r, Field::OfTerm, Field::Nil, Field::Nil),
+        CA => mark_row(table, marks, r, Field::OfConstant, Field::Terms, Field::Nil),
+        VA => mark_row(table, marks, r, Field::Small, Field::Terms, Field::Nil),
+        HA => mark_row(table, marks, r, Field::OfHole, Field::Terms, Field::Nil),
+        EQ => mark_row(table, marks, r, Field::OfTerm, Field::OfTerm, Field::OfType),
         _ => false,
     }
 }
@@ -253,7 +301,7 @@ pub fn broken(
     let mut r = 0;
     let mut count = 0;
     while r < n {
-        if !record_keeps(table, marks, last, before, r) {
+        if !mark_record(table, marks, last, before, r) {
             return Pass::Broken(r);
         }
         count = note(table, equations, count, r);

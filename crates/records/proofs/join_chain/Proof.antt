@@ -1,10 +1,10 @@
--- `records::new_type` meets its contract.
+-- `records::join_chain` meets its contract.
 use native.Mathlib.Omega.{arith}
 use borrow.Author.Needs.{needs}
 use lib.ListN.{length-set}
 use Rattle.records.proofs.Earlier.{Searched, key-low, search-start, at-low, search-stop, search-on, search-falls, search-end}
-use Rattle.records.proofs.new_type.Statement.{statement}
-use Rattle.records.proofs.new_type.Tie as tie
+use Rattle.records.proofs.join_chain.Statement.{statement}
+use Rattle.records.proofs.join_chain.Tie as tie
 
 abbrev Inv-loop : tie.InvT-loop
 Inv-loop table last before r x key top j₀ j = Searched table r j
@@ -101,8 +101,8 @@ returns-2 c =
     let x = c .before .before .before .before .read .ensures in
     search-end _ _ _ _ p _ x _ (c .before .loop .inv) (c .loop-test .left)
 
-pub new-type-spec : {M : Type 1} → statement M
-new-type-spec =
+pub join-chain-spec : {M : Type 1} → statement M
+join-chain-spec =
     tie.close
     (tie.spec
     Inv-loop

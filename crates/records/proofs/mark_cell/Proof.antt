@@ -1,11 +1,11 @@
--- `records::listed` meets its contract.
+-- `records::mark_cell` meets its contract.
 use borrow.Author.Needs.{needs}
 use Rattle.records.proofs.Lengths.{element-room, one-fits, list-one, rest-room, rest-used-mark, list-low, most-fits, more-fits, list-more, list-long}
-use Rattle.records.proofs.listed.Statement.{statement}
-use Rattle.records.proofs.listed.Tie as tie
+use Rattle.records.proofs.mark_cell.Statement.{statement}
+use Rattle.records.proofs.mark_cell.Tie as tie
 
-pub listed-spec : {M : Type 1} → statement M
-listed-spec =
+pub mark-cell-spec : {M : Type 1} → statement M
+mark-cell-spec =
     tie.close
     (tie.spec
     (λ c κs. search needs)
