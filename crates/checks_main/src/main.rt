@@ -2,8 +2,11 @@
 // `answer place` for each, 0 0 where it is admitted.
 use checks::check;
 use libc::STDOUT_FILENO;
+use stored::PROBLEMS;
 use stored::fill;
-use stored::read_bytes;
+use stored::read_end;
+use stored::read_head;
+use stored::read_words;
 use stored::word;
 ghost use Prim.Native.Nat.{_*_, _≤_};
 ghost use lib.ListN.{length};
@@ -16,8 +19,8 @@ fn print(answer: u32, place: u32) {
     io::write_all(STDOUT_FILENO, b"\n");
 }
 
-// The problem that the bytes hold is checked and answered.
-fn answer(bytes: &[u8], n: usize, words: &mut [u32])
+// The words that the bytes hold are checked and answered.
+fn check_words(bytes: &[u8], n: usize, words: &mut [u32])
     requires { ⌜ 4 * length (now words) ≤ length (now bytes) ⌝ }
 {
     fill(bytes, 0, words);
@@ -25,32 +28,37 @@ fn answer(bytes: &[u8], n: usize, words: &mut [u32])
     print(reply.answer, reply.place);
 }
 
-// One problem is read and answered; false at the end of the input, or where it has more words than there is room for.
+// A problem of so many words is answered from its bytes.
+fn answer(bytes: &[u8; 80000], n: usize, count: usize)
+    requires { ⌜ count ≤ 20000 ⌝ }
+{
+    let mut words = [0u32; 20000];
+    check_words(bytes, n, &mut words[..count]);
+}
+
+// One problem is read and answered; false at the end of the input, and where it can not be read, which is said.
 fn problem() -> bool {
     let mut head = [0u8; 8];
-    if !read_bytes(&mut head, 8) {
+    if !read_head(&mut head) {
         return false;
     }
     let n = word(&head, 0) as usize;
     let count = word(&head, 1) as usize;
-    if 20000 < count {
-        return false;
-    }
     let mut bytes = [0u8; 80000];
-    if !read_bytes(&mut bytes, 4 * count) {
+    if !read_words(&mut bytes, count) {
         return false;
     }
-    let mut words = [0u32; 20000];
-    answer(&bytes, n, &mut words[..count]);
+    answer(&bytes, n, count);
     true
 }
 
 fn main() {
-    let mut left = 1000000u32;
+    let mut left = PROBLEMS;
     while 0 < left {
         if !problem() {
             return;
         }
         left -= 1;
     }
+    read_end();
 }

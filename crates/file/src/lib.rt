@@ -41,7 +41,7 @@ fn tag_of_mark(x: u8, y: u8) -> Found
 }
 
 // Four bytes from byte i on, little-endian.
-fn word_at(file: &[u8], i: usize) -> u32
+pub fn word_at(file: &[u8], i: usize) -> u32
     requires { ⌜ i + 3 < length (now file) ⌝ }
     ensures { λ r. ⌜ word (now (file .entry)) i ≡ r ⌝ }
 {

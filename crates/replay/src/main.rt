@@ -1,10 +1,14 @@
 // Replays stored problems: each is read from standard input, as `independent replay-in` writes it, and the replies and every word that
 // solve, show and read leave are printed.
 use rules::Reply;
+use stored::PROBLEMS;
 use stored::fill;
 use stored::print_reply;
 use stored::print_words;
-use stored::read_bytes;
+use stored::read_end;
+use stored::read_head;
+use stored::read_words;
+use stored::stop;
 use stored::word;
 ghost use Prim.Native.Nat.{_+_, _*_, _≤_};
 ghost use lib.ListN.{length};
@@ -20,7 +24,7 @@ fn start(bytes: &[u8], table: &mut [u32], solutions: &mut [u32], queue: &mut [u3
     fill(bytes, third, queue)
 }
 
-// What solve or show replies, and the words that it leaves.
+// What solve or show replies, and the words that it leaves; false, here and below, where the program stops, which is said.
 fn print_left(
     line: &mut [u8],
     name: &[u8],
@@ -28,11 +32,17 @@ fn print_left(
     table: &[u32],
     solutions: &[u32],
     queue: &[u32],
-) {
-    print_reply(line, name, reply);
-    print_words(line, b"table", table);
-    print_words(line, b"solutions", solutions);
-    print_words(line, b"queue", queue);
+) -> bool {
+    if !print_reply(line, name, reply) {
+        return false;
+    }
+    if !print_words(line, b"table", table) {
+        return false;
+    }
+    if !print_words(line, b"solutions", solutions) {
+        return false;
+    }
+    print_words(line, b"queue", queue)
 }
 
 // A problem is solved.
@@ -43,12 +53,12 @@ fn solve(
     table: &mut [u32],
     solutions: &mut [u32],
     queue: &mut [u32],
-)
+) -> bool
     requires { ⌜ 4 * (length (now table) + length (now solutions) + length (now queue)) ≤ length (now bytes) ⌝ }
 {
     start(bytes, table, solutions, queue);
     let reply = solver::solve(table, n, solutions, queue);
-    print_left(line, b"solve", reply, table, solutions, queue);
+    print_left(line, b"solve", reply, table, solutions, queue)
 }
 
 // A hole of a problem is shown.
@@ -61,13 +71,13 @@ fn show(
     solutions: &mut [u32],
     queue: &mut [u32],
     output: &mut [u32],
-)
+) -> bool
     requires { ⌜ 4 * (length (now table) + length (now solutions) + length (now queue) + length (now output)) ≤ length (now bytes) ⌝ }
 {
     let last = start(bytes, table, solutions, queue);
     fill(bytes, last, output);
     let reply = solver::show(table, n, solutions, queue, hole, output);
-    print_left(line, b"show", reply, table, solutions, queue);
+    print_left(line, b"show", reply, table, solutions, queue)
 }
 
 // A problem is solved, and a hole of it is shown from the words before.
@@ -80,18 +90,51 @@ fn solve_and_show(
     solutions: &mut [u32],
     queue: &mut [u32],
     output: &mut [u32],
-)
+) -> bool
     requires { ⌜ 4 * (length (now table) + length (now solutions) + length (now queue) + length (now output)) ≤ length (now bytes) ⌝ }
 {
-    solve(line, bytes, n, table, solutions, queue);
-    show(line, bytes, n, hole, table, solutions, queue, output);
-    print_words(line, b"output", output);
+    if !solve(line, bytes, n, table, solutions, queue) {
+        return false;
+    }
+    if !show(line, bytes, n, hole, table, solutions, queue, output) {
+        return false;
+    }
+    print_words(line, b"output", output)
 }
 
-// A problem of the first kind; false where it has more words than there is room for, or is cut off.
+// A problem with so many words in each slice, from its bytes.
+fn solve_bytes(
+    line: &mut [u8],
+    bytes: &[u8; 96000],
+    n: usize,
+    hole: usize,
+    t: usize,
+    s: usize,
+    q: usize,
+    o: usize,
+) -> bool
+    requires { ⌜ t + s + q + o ≤ 24000 ⌝ }
+{
+    let mut table = [0u32; 24000];
+    let mut solutions = [0u32; 24000];
+    let mut queue = [0u32; 24000];
+    let mut output = [0u32; 24000];
+    solve_and_show(
+        line,
+        bytes,
+        n,
+        hole,
+        &mut table[..t],
+        &mut solutions[..s],
+        &mut queue[..q],
+        &mut output[..o],
+    )
+}
+
+// A problem of the first kind.
 fn problem(line: &mut [u8]) -> bool {
     let mut head = [0u8; 24];
-    if !read_bytes(&mut head, 24) {
+    if !read_words(&mut head, 6) {
         return false;
     }
     let n = word(&head, 0) as usize;
@@ -100,83 +143,64 @@ fn problem(line: &mut [u8]) -> bool {
     let s = word(&head, 3) as usize;
     let q = word(&head, 4) as usize;
     let o = word(&head, 5) as usize;
-    let count = t + s + q + o;
-    if 24000 < count {
-        return false;
-    }
     let mut bytes = [0u8; 96000];
-    if !read_bytes(&mut bytes, 4 * count) {
-        return false;
-    }
-    let mut table = [0u32; 24000];
-    let mut solutions = [0u32; 24000];
-    let mut queue = [0u32; 24000];
-    let mut output = [0u32; 24000];
-    solve_and_show(
-        line,
-        &bytes,
-        n,
-        hole,
-        &mut table[..t],
-        &mut solutions[..s],
-        &mut queue[..q],
-        &mut output[..o],
-    );
-    true
+    read_words(&mut bytes, t + s + q + o) && solve_bytes(line, &bytes, n, hole, t, s, q, o)
 }
 
 // A file, the first f of the bytes, is read into a table, whose words stand from word `first` on.
-fn read(line: &mut [u8], bytes: &[u8], f: usize, first: usize, table: &mut [u32])
+fn read(line: &mut [u8], bytes: &[u8], f: usize, first: usize, table: &mut [u32]) -> bool
     requires { ⌜ (f ≤ length (now bytes)) × (4 * (first + length (now table)) ≤ length (now bytes)) ⌝ }
 {
     fill(bytes, first, table);
     let reply = file::read(&bytes[..f], table);
-    print_reply(line, b"read", reply);
-    print_words(line, b"table", table);
+    print_reply(line, b"read", reply) && print_words(line, b"table", table)
 }
 
-// A problem of the second kind; false where it has more words than there is room for, or is cut off.
+// A file of so many bytes, and a table of so many words after it, from their bytes.
+fn read_file(line: &mut [u8], bytes: &[u8; 96000], f: usize, first: usize, t: usize) -> bool
+    requires { ⌜ (f ≤ 4 * first) × (first + t ≤ 24000) ⌝ }
+{
+    let mut table = [0u32; 24000];
+    read(line, bytes, f, first, &mut table[..t])
+}
+
+// A problem of the second kind.
 fn file_problem(line: &mut [u8]) -> bool {
     let mut head = [0u8; 8];
-    if !read_bytes(&mut head, 8) {
+    if !read_words(&mut head, 2) {
         return false;
     }
     let f = word(&head, 0) as usize;
     let t = word(&head, 1) as usize;
     let first = (f + 3) / 4;
-    let count = first + t;
-    if 24000 < count {
-        return false;
-    }
     let mut bytes = [0u8; 96000];
-    if !read_bytes(&mut bytes, 4 * count) {
-        return false;
-    }
-    let mut table = [0u32; 24000];
-    read(line, &bytes, f, first, &mut table[..t]);
-    true
+    read_words(&mut bytes, first + t) && read_file(line, &bytes, f, first, t)
 }
 
-// One problem is replayed; false at the end of the input.
+// One problem is replayed; false at the end of the input too.
 fn replay(line: &mut [u8]) -> bool {
     let mut kind = [0u8; 4];
-    if !read_bytes(&mut kind, 4) {
+    if !read_head(&mut kind) {
         return false;
     }
     match word(&kind, 0) {
         1 => problem(line),
         2 => file_problem(line),
-        _ => false,
+        _ => {
+            stop(b"an unknown kind of problem");
+            false
+        }
     }
 }
 
 fn main() {
     let mut line = [0u8; 270000];
-    let mut left = 1000000u32;
+    let mut left = PROBLEMS;
     while 0 < left {
         if !replay(&mut line) {
             return;
         }
         left -= 1;
     }
+    read_end();
 }

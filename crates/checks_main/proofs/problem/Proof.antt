@@ -1,9 +1,7 @@
--- `checks_main::problem` meets its contract.
-use mathlib.Core.Path.{sym}
+-- `checks_main::problem` meets its contract: where the words were read, there was room for them.
 use native.Mathlib.Omega.{arith}
 use borrow.Author.Needs.{needs}
-use lib.ListN.{length-take}
-use lib.Seq.{length-take-le}
+use borrow.Author.Tests.{not-false}
 use Rattle.checks_main.proofs.problem.Statement.{statement}
 use Rattle.checks_main.proofs.problem.Tie as tie
 
@@ -21,12 +19,7 @@ problem-spec =
     (λ c κs. search needs)
     (λ c. search needs)
     (λ c. search needs)
-    (λ c. search needs)
-    (λ c. search needs)
     (λ c κs. search needs)
     (λ c. search needs)
-    (λ c. search needs)
-    (λ c. search needs)
-    (λ c. sym (length-take-le _ _ (search needs)))
-    (λ c κs. simp length-take (omega arith))
+    (λ c κs. let room = c .before .before .before .read-words .ensures (not-false _ (c .before .if2 .left)) in omega arith)
     (λ c. search needs))

@@ -32,4 +32,5 @@ main-spec =
     (λ c. omega arith)
     (λ c. omega arith)
     loop-again
+    (λ c κs. search needs)
     (λ c. search needs))

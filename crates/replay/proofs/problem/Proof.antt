@@ -1,9 +1,6 @@
--- `replay::problem` meets its contract.
-use mathlib.Core.Path.{sym}
+-- `replay::problem` meets its contract: where the words were read, there was room for them.
 use native.Mathlib.Omega.{arith}
 use borrow.Author.Needs.{needs}
-use lib.ListN.{length-take}
-use lib.Seq.{length-take-le}
 use Rattle.replay.proofs.problem.Statement.{statement}
 use Rattle.replay.proofs.problem.Tie as tie
 
@@ -36,19 +33,8 @@ problem-spec =
     (λ c. search needs)
     (λ c. search needs)
     (λ c. search needs)
-    (λ c. search needs)
-    (λ c. search needs)
     (λ c κs. search needs)
+    (λ c κs. let room = c .before .before .before .before .read-words2 .ensures (c .before .before .if2 .taken) in omega arith)
     (λ c. search needs)
-    (λ c. search needs)
-    (λ c. search needs)
-    (λ c. sym (length-take-le _ _ (search needs)))
-    (λ c. search needs)
-    (λ c. sym (length-take-le _ _ (search needs)))
-    (λ c. search needs)
-    (λ c. sym (length-take-le _ _ (search needs)))
-    (λ c. search needs)
-    (λ c. sym (length-take-le _ _ (search needs)))
-    (λ c κs. simp length-take (omega arith))
     (λ c. search needs)
     (λ c. search needs))
