@@ -50,6 +50,7 @@ use Rattle.fill.specs.Filled.{filled-again}
 use Rattle.checks.specs.declared.Asked.{Asked}
 use Rattle.checks.specs.declared.Asked.the-variants.{Record as Asking}
 use Rattle.checks.specs.Refusing.{asks, isHole}
+use Rattle.solver.specs.Behind.{AskedLeaves}
 
 -- a final store of the machine, and an input hole
 pub record Answerable (ws ss : List ℕ) (h : ℕ) : Type 0 where
@@ -59,20 +60,20 @@ pub record Answerable (ws ss : List ℕ) (h : ℕ) : Type 0 where
   pub known : HoleKnown (table .R) (store ws ss (table .used)) (toVariables 0 (below (length (elements ws (fieldA ws h))))) h
 
 -- the reply, and the words left
-pub record Finishes (O : ℕ) (os : List ℕ) (x : Walked) (os₁ : List ℕ) (r : Reply) : Type 0 where
+pub record ShowReply (O : ℕ) (os : List ℕ) (x : Walked) (os₁ : List ℕ) (r : Reply) : Type 0 where
   pub root : (t u : ℕ) → x ≡ Root t u → (os ≡ os₁) × (reply 0 0 u ≡ r)
   pub failed : (e : Failure) → x ≡ Failed e → (filled 0 (4 * O) 0 os ≡ os₁) × (too-few ≡ r)
 
 module _ (O : ℕ) (os : List ℕ) (x : Walked) where
-  pub finishes-root : (t u : ℕ) → x ≡ Root t u → Finishes O os x os (reply 0 0 u)
-  finishes-root t u e =
+  pub show-replied : (t u : ℕ) → x ≡ Root t u → ShowReply O os x os (reply 0 0 u)
+  show-replied t u e =
       record {
         root = λ s v q. let z : u ≡ v = cc in (refl, ap (λ (k : ℕ). reply 0 0 k) (sym z));
         failed = λ f q. let z : _≡_ {A = ℕ} 0 1 = cc in absurd (omega arith);
       }
 
-  pub finishes-failed : (e : Failure) (os₁ : List ℕ) (r : Reply) → x ≡ Failed e → filled 0 (4 * O) 0 os ≡ os₁ → too-few ≡ r → Finishes O os x os₁ r
-  finishes-failed e os₁ r q c s = record { root = λ t u p. let z : _≡_ {A = ℕ} 0 1 = cc in absurd (omega arith); failed = λ f p. (c, s) }
+  pub show-failed : (e : Failure) (os₁ : List ℕ) (r : Reply) → x ≡ Failed e → filled 0 (4 * O) 0 os ≡ os₁ → too-few ≡ r → ShowReply O os x os₁ r
+  show-failed e os₁ r q c s = record { root = λ t u p. let z : _≡_ {A = ℕ} 0 1 = cc in absurd (omega arith); failed = λ f p. (c, s) }
 
 -- after solving answered 0, show writes this and replies so
 pub record Writes (ws ss : List ℕ) (h : ℕ) (os os₁ : List ℕ) (r : Reply) : Type 0 where
@@ -99,7 +100,7 @@ module _ (ws ss : List ℕ) (h : ℕ) (os : List ℕ) (O : ℕ) (room : records 
         let t : filled 0 (4 * O) 0 os₁ ≡ filled 0 (4 * O) 0 os₀ = rw k at (o .table) in
         t ∙ rw (← blank) (filled-again 0 (4 * O) 0 os (blank-fits os O room))
 
-    pub writes : (os₂ : List ℕ) (r : Reply) → Finishes O os₁ x os₂ r → Writes ws ss h os os₂ r
+    pub writes : (os₂ : List ℕ) (r : Reply) → ShowReply O os₁ x os₂ r → Writes ws ss h os os₂ r
     unfolding shows
     writes os₂ r f = record { run = λ l tb so zero-said. go x refl l tb so zero-said }
       where
@@ -169,7 +170,7 @@ unfolding shows
 shows-refused l os h ne = some-answer _ _ (l .said .answer) ne
 
 module _ (asked : Asked) (ws ss qs : List ℕ) (n h : ℕ) (ws₁ ss₁ qs₁ : List ℕ) (r : Reply)
-    (e : leaves (refusal (asks asked ws n) ws ss n) ws ss qs n ≡ record { table = ws₁; solutions = ss₁; queue = qs₁; said = r }) (is : asked ≡ Asking h) where
+    (e : AskedLeaves asked ws ss qs n ws₁ ss₁ qs₁ r) (is : asked ≡ Asking h) where
   abbrev behind : Behind
   behind = record { table = ws₁; solutions = ss₁; queue = qs₁; said = r }
 

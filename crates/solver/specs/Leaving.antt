@@ -18,6 +18,7 @@ use Rattle.records.specs.Rows.{BrokenAsks}
 use Rattle.checks.specs.declared.Refusal.{Refusal}
 use Rattle.checks.specs.declared.Refusal.the-variants.{Admitted as Admits-all, Refused}
 use Rattle.checks.specs.Refusing.{refusalOf, outside, Settled, outside-refused, inside-sound, in-table, zeros-ask}
+use Rattle.solver.specs.Behind.{LeftBehind}
 use Rattle.solver.specs.Running.{Admits}
 
 -- an input within its table and solution words, of at most k records
@@ -35,7 +36,7 @@ zeros-serve k small ws ss n h = record { asks = zeros-ask k small ws n (h .few) 
 
 -- 4
 module _ (b : Bool) (ws ss qs : List ℕ) (n : ℕ) where
-  pub left-outside : (o : Bool) (r : Reply) → o ≡ outside ws ss n → o ≡ true → refusing NoRoom ≡ r → leaves (refusal b ws ss n) ws ss qs n ≡ record { table = ws; solutions = ss; queue = qs; said = r }
+  pub left-outside : (o : Bool) (r : Reply) → o ≡ outside ws ss n → o ≡ true → refusing NoRoom ≡ r → LeftBehind (refusal b ws ss n) ws ss qs n ws ss qs r
   unfolding leaves
   left-outside o r e t q = rw (outside-refused ws ss n b (sym e ∙ t), q)
 
@@ -50,16 +51,16 @@ module _ (ws ss : List ℕ) (n : ℕ) (o : Bool) (e : o ≡ outside ws ss n) (f 
   inside-few k le = record { few = le; within = sym e ∙ f }
 
 -- what is not refused is admitted, with the equations noted
-pub record Settling (ws ss es : List ℕ) (n : ℕ) (x : Refusal) : Type 0 where
+pub record UnlessRefused (ws ss es : List ℕ) (n : ℕ) (x : Refusal) : Type 0 where
   pub admits : (R k : ℕ) → records ws ≡ R → x ≡ Admits-all k → Admits R n ws ss es k
 
 module _ (ws ss qs es : List ℕ) (n : ℕ) (x : Refusal) where
-  pub left-refused : (why : Why) (r : Reply) → x ≡ Refused why → refusing why ≡ r → leaves (refusalOf x) ws ss qs n ≡ record { table = ws; solutions = ss; queue = qs; said = r }
+  pub left-refused : (why : Why) (r : Reply) → x ≡ Refused why → refusing why ≡ r → LeftBehind (refusalOf x) ws ss qs n ws ss qs r
   unfolding leaves
   left-refused why r z q = rw (z, q)
 
-  pub settling-admits : (R k : ℕ) → Settling ws ss es n x → records ws ≡ R → x ≡ Admits-all k → Admits R n ws ss es k
-  settling-admits R k h r z = h .admits R k r z
+  pub unless-admits : (R k : ℕ) → UnlessRefused ws ss es n x → records ws ≡ R → x ≡ Admits-all k → Admits R n ws ss es k
+  unless-admits R k h r z = h .admits R k r z
 
   pub left-admitted : (k : ℕ) (l : Behind) → x ≡ Admits-all k → leaves admitted ws ss qs n ≡ l → leaves (refusalOf x) ws ss qs n ≡ l
   left-admitted k l z h = rw z h
@@ -69,8 +70,8 @@ module _ (b : Bool) (ws ss ms la be es₀ es : List ℕ) (n : ℕ) (x : Refusal)
   says : refusal b ws ss n ≡ refusalOf x
   says = inside-sound ws ss n (h .within) b (refusalOf x) (s .says)
 
-  pub settles : Settling ws ss es n x
-  settles = record { admits = go }
+  pub unless-refused : UnlessRefused ws ss es n x
+  unless-refused = record { admits = go }
     where
       go : (R k : ℕ) → records ws ≡ R → x ≡ Admits-all k → Admits R n ws ss es k
       go R k r z =
@@ -83,5 +84,5 @@ module _ (b : Bool) (ws ss ms la be es₀ es : List ℕ) (n : ℕ) (x : Refusal)
             noted = record { long = s .held k z; same = s .noted k z };
           }
 
-  pub left-settled : (qs : List ℕ) (l : Behind) → leaves (refusalOf x) ws ss qs n ≡ l → leaves (refusal b ws ss n) ws ss qs n ≡ l
-  left-settled qs l e = rw says e
+  pub left-checked : (qs : List ℕ) (l : Behind) → leaves (refusalOf x) ws ss qs n ≡ l → leaves (refusal b ws ss n) ws ss qs n ≡ l
+  left-checked qs l e = rw says e

@@ -1,3 +1,4 @@
+pub mod Behind  -- what is left behind, as the contracts say it
 pub mod Clearing  -- where the machine starts, and starts again
 pub mod Unused  -- the first record that was not written
 pub mod Running  -- the machine on an admitted input, and what it leaves behind

@@ -33,6 +33,7 @@ use Rattle.machine.specs.declared.Ran.{Ran}
 use Rattle.machine.specs.declared.Ran.the-variants.{Solved, Failed}
 use Rattle.machine.specs.Run.{ended}
 use Rattle.machine.specs.Start.{Noted, Started}
+use Rattle.solver.specs.Behind.{LeftBehind}
 use Rattle.solver.specs.Clearing.{Clearing, Cleared, clearing-on, clearing-table, clearing-solutions, pairs-held}
 use Rattle.solver.specs.Unused.{Unused, cleared-all}
 
@@ -71,26 +72,26 @@ module _ (e : Failure) where
   is-table-full q = rw q
 
 -- what the reply's words are made from: after a failure, what was not written is still cleared
-pub record Concluding (n R : ℕ) (ws ss : List ℕ) (x : Ran) : Type 0 where
+pub record MachineEnded (n R : ℕ) (ws ss : List ℕ) (x : Ran) : Type 0 where
   pub clearing : Clearing n R ws ss
   pub rest : (e : Failure) → x ≡ Failed e → Rest R n ws ss
 
 -- the reply, and the words left
-pub record Concludes (n R : ℕ) (ws ss : List ℕ) (x : Ran) (ws₁ ss₁ : List ℕ) (r : Reply) : Type 0 where
+pub record MachineReply (n R : ℕ) (ws ss : List ℕ) (x : Ran) (ws₁ ss₁ : List ℕ) (r : Reply) : Type 0 where
   pub solved : (u : ℕ) → x ≡ Solved u → (ws ≡ ws₁) × (ss ≡ ss₁) × (reply 0 0 u ≡ r)
   pub failed : (e : Failure) → x ≡ Failed e → Cleared n R ws ss ws₁ ss₁ × (reply (number e) 0 0 ≡ r)
 
 module _ (n R : ℕ) (ws ss : List ℕ) (x : Ran) where
-  pub concludes-solved : (u : ℕ) → x ≡ Solved u → Concludes n R ws ss x ws ss (reply 0 0 u)
-  concludes-solved u e =
+  pub machine-replied : (u : ℕ) → x ≡ Solved u → MachineReply n R ws ss x ws ss (reply 0 0 u)
+  machine-replied u e =
       record {
         solved = λ v q. let z : u ≡ v = cc in (refl, refl, ap (λ (k : ℕ). reply 0 0 k) (sym z));
         failed = λ f q. let z : _≡_ {A = ℕ} 0 1 = cc in absurd (omega arith);
       }
 
-  pub concludes-failed : (e : Failure) (u k : ℕ) (ws₁ ss₁ : List ℕ) → Concluding n R ws ss x → x ≡ Failed e → Unused n R ws u → Cleared n u ws ss ws₁ ss₁ → number e ≡ k
-      → Concludes n R ws ss x ws₁ ss₁ (reply k 0 0)
-  concludes-failed e u k ws₁ ss₁ h q found c m =
+  pub machine-failed : (e : Failure) (u k : ℕ) (ws₁ ss₁ : List ℕ) → MachineEnded n R ws ss x → x ≡ Failed e → Unused n R ws u → Cleared n u ws ss ws₁ ss₁ → number e ≡ k
+      → MachineReply n R ws ss x ws₁ ss₁ (reply k 0 0)
+  machine-failed e u k ws₁ ss₁ h q found c m =
       record {
         solved = λ v p. let z : _≡_ {A = ℕ} 0 1 = cc in absurd (omega arith);
         failed = λ f p. let z : e ≡ f = cc in (cleared-all n R u ws ss (h .clearing) found ws₁ ss₁ (h .rest e q) c, ap (λ (j : ℕ). reply j 0 0) (ap number (sym z) ∙ m));
@@ -191,14 +192,14 @@ module _ (R n : ℕ) (ws ss es : List ℕ) (k : ℕ) (a : Admits R n ws ss es k)
           let g : Grows Nobody Any (records ws) n (λ i. 0) (start ws ss n) (machine (records ws) C n (start ws ss n)) = machine-grows true ws ss n C (a .input) (omega arith) in
           rw (a .room, start-is ws₀ ss₀ c, m) at g
 
-  pub admits-concluding : (C : ℕ) (qs ws₀ ss₀ ws₁ ss₁ qs₁ : List ℕ) (x : Ran) → Cleared n R ws ss ws₀ ss₀ → Machines R C n ws₀ ss₀ qs ws₁ ss₁ qs₁ x
-      → length ws₁ ≡ length ws → length ss₁ ≡ length ss → Concluding n R ws₁ ss₁ x
-  admits-concluding C qs ws₀ ss₀ ws₁ ss₁ qs₁ x c m e f =
+  pub admits-ended : (C : ℕ) (qs ws₀ ss₀ ws₁ ss₁ qs₁ : List ℕ) (x : Ran) → Cleared n R ws ss ws₀ ss₀ → Machines R C n ws₀ ss₀ qs ws₁ ss₁ qs₁ x
+      → length ws₁ ≡ length ws → length ss₁ ≡ length ss → MachineEnded n R ws₁ ss₁ x
+  admits-ended C qs ws₀ ss₀ ws₁ ss₁ qs₁ x c m e f =
       record { clearing = clearing-on n R ws ss admits-clearing ws₁ ss₁ e f; rest = λ y z. failing C ws₀ ss₀ ws₁ ss₁ y c (rw z at (m .run)) .rest }
 
   -- the words and the reply left behind
   pub left : (C : ℕ) (qs ws₀ ss₀ ws₁ ss₁ qs₁ : List ℕ) (x : Ran) (ws₂ ss₂ qs₂ : List ℕ) (r : Reply) → pairs qs ≡ C → Cleared n R ws ss ws₀ ss₀ → Machines R C n ws₀ ss₀ qs ws₁ ss₁ qs₁ x
-      → Concludes n R ws₁ ss₁ x ws₂ ss₂ r → filled 0 (2 * C) 0 qs₁ ≡ qs₂ → leaves admitted ws ss qs n ≡ record { table = ws₂; solutions = ss₂; queue = qs₂; said = r }
+      → MachineReply n R ws₁ ss₁ x ws₂ ss₂ r → filled 0 (2 * C) 0 qs₁ ≡ qs₂ → LeftBehind admitted ws ss qs n ws₂ ss₂ qs₂ r
   unfolding leaves emptied
   left C qs ws₀ ss₀ ws₁ ss₁ qs₁ x ws₂ ss₂ qs₂ r p c m d e = go x refl
     where
@@ -208,7 +209,7 @@ module _ (R n : ℕ) (ws ss es : List ℕ) (k : ℕ) (a : Admits R n ws ss es k)
       out : (y : Ran) → x ≡ y → machine (records ws) (pairs qs) n (start ws ss n) ≡ ended ws₁ ss₁ y
       out y z = rw (a .room, p, start-is ws₀ ss₀ c) (rw z at (m .run))
 
-      go : (y : Ran) → x ≡ y → leaves admitted ws ss qs n ≡ record { table = ws₂; solutions = ss₂; queue = qs₂; said = r }
+      go : (y : Ran) → x ≡ y → LeftBehind admitted ws ss qs n ws₂ ss₂ qs₂ r
       go (Solved u) z = let k = d .solved u z in rw (out (Solved u) z, leaves, q, k .0, k .1, k .2)
       go (Failed f) z =
           let k = d .failed f z in

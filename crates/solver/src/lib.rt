@@ -19,15 +19,16 @@ ghost use mathlib.Core.Path.{_≡_};
 ghost use Prim.Native.Nat.{_*_, _≤_};
 ghost use lib.ListN.{length};
 ghost use Rattle.rules.specs.Answers.{too-few, pairs, number};
-ghost use Rattle.rules.specs.Solve.{admitted, refusal, leaves, solve as solveOf};
+ghost use Rattle.rules.specs.Solve.{admitted, solve as solveOf};
 ghost use Rattle.rules.specs.Show.{show as showOf};
 ghost use Rattle.machine.specs.Start.{Started};
-ghost use Rattle.checks.specs.Refusing.{asks, refusalOf};
+ghost use Rattle.checks.specs.Refusing.{refusalOf};
+ghost use Rattle.solver.specs.Behind.{LeftBehind, AskedLeaves};
 ghost use Rattle.solver.specs.Clearing.{Clearing, Cleared};
 ghost use Rattle.solver.specs.Unused.{Unused};
-ghost use Rattle.solver.specs.Running.{Machines, Concluding, Concludes, Admits};
-ghost use Rattle.solver.specs.Leaving.{Inside, Checking, Settling};
-ghost use Rattle.solver.specs.Answering.{Answerable, Writes, Finishes};
+ghost use Rattle.solver.specs.Running.{Machines, MachineEnded, MachineReply, Admits};
+ghost use Rattle.solver.specs.Leaving.{Inside, Checking, UnlessRefused};
+ghost use Rattle.solver.specs.Answering.{Answerable, Writes, ShowReply};
 
 // C: the length divided by 2, rounded down, at most 1,024.
 fn pairs_of(queue: &[u32]) -> usize
@@ -107,9 +108,9 @@ fn first_unused(table: &[u32], n: u32, room: u32) -> u32
 }
 
 // The reply to what the machine came to; a failure leaves table and solutions cleared: past the records written they still are.
-fn conclude(table: &mut [u32], solutions: &mut [u32], n: u32, room: u32, ran: Ran) -> Reply
-    requires { ⌜ Concluding n room (now table) (now solutions) ran ⌝ }
-    ensures { λ r. ⌜ Concludes n room (now (table .entry)) (now (solutions .entry)) ran (now (table .exit)) (now (solutions .exit)) r ⌝ }
+fn reply_to_machine(table: &mut [u32], solutions: &mut [u32], n: u32, room: u32, ran: Ran) -> Reply
+    requires { ⌜ MachineEnded n room (now table) (now solutions) ran ⌝ }
+    ensures { λ r. ⌜ MachineReply n room (now (table .entry)) (now (solutions .entry)) ran (now (table .exit)) (now (solutions .exit)) r ⌝ }
 {
     match ran {
         Ran::Solved(records) => Reply {
@@ -130,7 +131,7 @@ fn conclude(table: &mut [u32], solutions: &mut [u32], n: u32, room: u32, ran: Ra
 }
 
 // An admitted input: the machine runs from a cleared table, and the queue is emptied.
-fn run(
+fn solve_admitted(
     table: &mut [u32],
     solutions: &mut [u32],
     queue: &mut [u32],
@@ -140,18 +141,18 @@ fn run(
     room: u32,
 ) -> Reply
     requires { ⌜ Admits room n (now table) (now solutions) (now equations) count ⌝ }
-    ensures { λ r. ⌜ leaves admitted (now (table .entry)) (now (solutions .entry)) (now (queue .entry)) n ≡ record { table = now (table .exit); solutions = now (solutions .exit); queue = now (queue .exit); said = r } ⌝ }
+    ensures { λ r. ⌜ LeftBehind admitted (now (table .entry)) (now (solutions .entry)) (now (queue .entry)) n (now (table .exit)) (now (solutions .exit)) (now (queue .exit)) r ⌝ }
 {
     let cap = pairs_of(queue);
     clear(table, solutions, n, room);
     let ran = run_machine(table, solutions, queue, equations, count, n, room, cap);
-    let reply = conclude(table, solutions, n, room, ran);
+    let reply = reply_to_machine(table, solutions, n, room, ran);
     fill(queue, 0, 2 * cap, 0);
     reply
 }
 
 // A refusal writes nothing; otherwise the machine runs with the equations that were noted.
-fn settle(
+fn solve_unless_refused(
     table: &mut [u32],
     n: u32,
     solutions: &mut [u32],
@@ -159,20 +160,20 @@ fn settle(
     equations: &[u16],
     refusal: Refusal,
 ) -> Reply
-    requires { ⌜ Settling (now table) (now solutions) (now equations) n refusal ⌝ }
-    ensures { λ r. ⌜ leaves (refusalOf refusal) (now (table .entry)) (now (solutions .entry)) (now (queue .entry)) n ≡ record { table = now (table .exit); solutions = now (solutions .exit); queue = now (queue .exit); said = r } ⌝ }
+    requires { ⌜ UnlessRefused (now table) (now solutions) (now equations) n refusal ⌝ }
+    ensures { λ r. ⌜ LeftBehind (refusalOf refusal) (now (table .entry)) (now (solutions .entry)) (now (queue .entry)) n (now (table .exit)) (now (solutions .exit)) (now (queue .exit)) r ⌝ }
 {
     match refusal {
         Refusal::Refused(refused) => refusing(refused),
         Refusal::Admitted { count } => {
             let room = room_of(table);
-            run(table, solutions, queue, equations, count, n, room)
+            solve_admitted(table, solutions, queue, equations, count, n, room)
         }
     }
 }
 
 // Answers 5, 10, 6 and 7, and otherwise the machine.
-fn leave_checked(
+fn check_and_solve(
     table: &mut [u32],
     n: u32,
     solutions: &mut [u32],
@@ -184,28 +185,28 @@ fn leave_checked(
     asked: Asked,
 ) -> Reply
     requires { ⌜ Checking (now table) (now solutions) (now marks) (now last) (now before) (now equations) n ⌝ }
-    ensures { λ r. ⌜ leaves (refusal (asks asked (now (table .entry)) n) (now (table .entry)) (now (solutions .entry)) n) (now (table .entry)) (now (solutions .entry)) (now (queue .entry)) n ≡ record { table = now (table .exit); solutions = now (solutions .exit); queue = now (queue .exit); said = r } ⌝ }
+    ensures { λ r. ⌜ AskedLeaves asked (now (table .entry)) (now (solutions .entry)) (now (queue .entry)) n (now (table .exit)) (now (solutions .exit)) (now (queue .exit)) r ⌝ }
 {
     let refusal = refuse(table, marks, last, before, equations, n, asked);
-    settle(table, n, solutions, queue, equations, refusal)
+    solve_unless_refused(table, n, solutions, queue, equations, refusal)
 }
 
-// At most 64 records.
-fn leave_64(
+// The checks with arrays for at most 256 records, which cost a small problem little to clear; then the machine.
+fn check_few(
     table: &mut [u32],
     n: u32,
     solutions: &mut [u32],
     queue: &mut [u32],
     asked: Asked,
 ) -> Reply
-    requires { ⌜ Inside 64 (now table) (now solutions) n ⌝ }
-    ensures { λ r. ⌜ leaves (refusal (asks asked (now (table .entry)) n) (now (table .entry)) (now (solutions .entry)) n) (now (table .entry)) (now (solutions .entry)) (now (queue .entry)) n ≡ record { table = now (table .exit); solutions = now (solutions .exit); queue = now (queue .exit); said = r } ⌝ }
+    requires { ⌜ Inside 256 (now table) (now solutions) n ⌝ }
+    ensures { λ r. ⌜ AskedLeaves asked (now (table .entry)) (now (solutions .entry)) (now (queue .entry)) n (now (table .exit)) (now (solutions .exit)) (now (queue .exit)) r ⌝ }
 {
-    let mut marks = [0u8; 64];
-    let mut last = [0u16; 64];
-    let mut before = [0u16; 64];
-    let mut equations = [0u16; 64];
-    leave_checked(
+    let mut marks = [0u8; 256];
+    let mut last = [0u16; 256];
+    let mut before = [0u16; 256];
+    let mut equations = [0u16; 256];
+    check_and_solve(
         table,
         n,
         solutions,
@@ -218,64 +219,8 @@ fn leave_64(
     )
 }
 
-// At most 512 records.
-fn leave_512(
-    table: &mut [u32],
-    n: u32,
-    solutions: &mut [u32],
-    queue: &mut [u32],
-    asked: Asked,
-) -> Reply
-    requires { ⌜ Inside 512 (now table) (now solutions) n ⌝ }
-    ensures { λ r. ⌜ leaves (refusal (asks asked (now (table .entry)) n) (now (table .entry)) (now (solutions .entry)) n) (now (table .entry)) (now (solutions .entry)) (now (queue .entry)) n ≡ record { table = now (table .exit); solutions = now (solutions .exit); queue = now (queue .exit); said = r } ⌝ }
-{
-    let mut marks = [0u8; 512];
-    let mut last = [0u16; 512];
-    let mut before = [0u16; 512];
-    let mut equations = [0u16; 512];
-    leave_checked(
-        table,
-        n,
-        solutions,
-        queue,
-        &mut marks,
-        &mut last,
-        &mut before,
-        &mut equations,
-        asked,
-    )
-}
-
-// At most 2,048 records.
-fn leave_2048(
-    table: &mut [u32],
-    n: u32,
-    solutions: &mut [u32],
-    queue: &mut [u32],
-    asked: Asked,
-) -> Reply
-    requires { ⌜ Inside 2048 (now table) (now solutions) n ⌝ }
-    ensures { λ r. ⌜ leaves (refusal (asks asked (now (table .entry)) n) (now (table .entry)) (now (solutions .entry)) n) (now (table .entry)) (now (solutions .entry)) (now (queue .entry)) n ≡ record { table = now (table .exit); solutions = now (solutions .exit); queue = now (queue .exit); said = r } ⌝ }
-{
-    let mut marks = [0u8; 2048];
-    let mut last = [0u16; 2048];
-    let mut before = [0u16; 2048];
-    let mut equations = [0u16; 2048];
-    leave_checked(
-        table,
-        n,
-        solutions,
-        queue,
-        &mut marks,
-        &mut last,
-        &mut before,
-        &mut equations,
-        asked,
-    )
-}
-
-// At most 4,096 records.
-fn leave_4096(
+// The checks with arrays for any number of records; then the machine.
+fn check_all(
     table: &mut [u32],
     n: u32,
     solutions: &mut [u32],
@@ -283,13 +228,13 @@ fn leave_4096(
     asked: Asked,
 ) -> Reply
     requires { ⌜ Inside 4096 (now table) (now solutions) n ⌝ }
-    ensures { λ r. ⌜ leaves (refusal (asks asked (now (table .entry)) n) (now (table .entry)) (now (solutions .entry)) n) (now (table .entry)) (now (solutions .entry)) (now (queue .entry)) n ≡ record { table = now (table .exit); solutions = now (solutions .exit); queue = now (queue .exit); said = r } ⌝ }
+    ensures { λ r. ⌜ AskedLeaves asked (now (table .entry)) (now (solutions .entry)) (now (queue .entry)) n (now (table .exit)) (now (solutions .exit)) (now (queue .exit)) r ⌝ }
 {
     let mut marks = [0u8; 4096];
     let mut last = [0u16; 4096];
     let mut before = [0u16; 4096];
     let mut equations = [0u16; 4096];
-    leave_checked(
+    check_and_solve(
         table,
         n,
         solutions,
@@ -302,36 +247,30 @@ fn leave_4096(
     )
 }
 
-// Answer 4 writes nothing; otherwise arrays of one of four sizes: small problems clear small arrays.
-fn leave(
+// Solving for what is asked. Answer 4 writes nothing; otherwise arrays of one of two sizes: small problems clear small arrays.
+fn solve_asked(
     table: &mut [u32],
     n: usize,
     solutions: &mut [u32],
     queue: &mut [u32],
     asked: Asked,
 ) -> Reply
-    ensures { λ r. ⌜ leaves (refusal (asks asked (now (table .entry)) n) (now (table .entry)) (now (solutions .entry)) n) (now (table .entry)) (now (solutions .entry)) (now (queue .entry)) n ≡ record { table = now (table .exit); solutions = now (solutions .exit); queue = now (queue .exit); said = r } ⌝ }
+    ensures { λ r. ⌜ AskedLeaves asked (now (table .entry)) (now (solutions .entry)) (now (queue .entry)) n (now (table .exit)) (now (solutions .exit)) (now (queue .exit)) r ⌝ }
 {
     if out_of_room(table, solutions, n) {
         return refusing(Refused::NoRoom);
     }
-    if n <= 64 {
-        return leave_64(table, n as u32, solutions, queue, asked);
+    if n <= 256 {
+        return check_few(table, n as u32, solutions, queue, asked);
     }
-    if n <= 512 {
-        return leave_512(table, n as u32, solutions, queue, asked);
-    }
-    if n <= 2048 {
-        return leave_2048(table, n as u32, solutions, queue, asked);
-    }
-    leave_4096(table, n as u32, solutions, queue, asked)
+    check_all(table, n as u32, solutions, queue, asked)
 }
 
 // Solving the first n records of a table, with solution and queue words.
 pub fn solve(table: &mut [u32], n: usize, solutions: &mut [u32], queue: &mut [u32]) -> Reply
     ensures { λ r. ⌜ solveOf (now (table .entry)) (now (solutions .entry)) (now (queue .entry)) n ≡ record { table = now (table .exit); solutions = now (solutions .exit); queue = now (queue .exit); said = r } ⌝ }
 {
-    leave(table, n, solutions, queue, Asked::Solving)
+    solve_asked(table, n, solutions, queue, Asked::Solving)
 }
 
 // The reply where show's output has too few records.
@@ -346,12 +285,12 @@ fn too_few() -> Reply
 }
 
 // The reply to what was written; too few output records leave all counted records zero.
-fn finish(output: &mut [u32], room: u32, walked: Walked) -> Reply
+fn reply_to_show(output: &mut [u32], room: u32, walked: Walked) -> Reply
     requires { ⌜ 4 * room ≤ length (now output) ⌝ }
-    ensures { λ r. ⌜ Finishes room (now (output .entry)) walked (now (output .exit)) r ⌝ }
+    ensures { λ r. ⌜ ShowReply room (now (output .entry)) walked (now (output .exit)) r ⌝ }
 {
     match walked {
-        Walked::Root { root, used } => Reply {
+        Walked::Root { root: _, used } => Reply {
             answer: 0,
             place: 0,
             used,
@@ -371,7 +310,7 @@ pub fn write_answer(table: &[u32], solutions: &[u32], output: &mut [u32], hole: 
     let room = room_of(output);
     fill(output, 0, 4 * (room as usize), 0);
     let walked = answer(table, solutions, output, room, hole);
-    finish(output, room, walked)
+    reply_to_show(output, room, walked)
 }
 
 // Showing record `hole` of the first n records: solves, then writes its answer into the output.
@@ -385,7 +324,7 @@ pub fn show(
 ) -> Reply
     ensures { λ r. ⌜ showOf (now (table .entry)) (now (solutions .entry)) (now (queue .entry)) (now (output .entry)) n hole ≡ record { behind = record { table = now (table .exit); solutions = now (solutions .exit); queue = now (queue .exit); said = r }; output = now (output .exit) } ⌝ }
 {
-    let reply = leave(table, n, solutions, queue, Asked::Record(hole));
+    let reply = solve_asked(table, n, solutions, queue, Asked::Record(hole));
     if reply.answer != 0 {
         return reply;
     }

@@ -5,7 +5,7 @@ use Rattle.solver.proofs.show.Statement.{statement}
 use Rattle.solver.proofs.show.Tie as tie
 use Rattle.solver.proofs.show.Reads as reads
 use Rattle.solver.proofs.show.Lts as lts
-use Rattle.solver.proofs.leave.Reads as leave-reads
+use Rattle.solver.proofs.solve_asked.Reads as solve-asked-reads
 use Rattle.solver.proofs.write_answer.Reads as write-answer-reads
 
 pub show-spec : {M : Type 1} → statement M

@@ -5,7 +5,7 @@ use Rattle.solver.proofs.solve.Statement.{statement}
 use Rattle.solver.proofs.solve.Tie as tie
 use Rattle.solver.proofs.solve.Reads as reads
 use Rattle.solver.proofs.solve.Lts as lts
-use Rattle.solver.proofs.leave.Reads as leave-reads
+use Rattle.solver.proofs.solve_asked.Reads as solve-asked-reads
 
 pub solve-spec : {M : Type 1} → statement M
 solve-spec = tie.close (tie.spec (λ c κs. search needs) (λ c. search needs) (λ c. search needs) (λ c. search needs) (λ c. search solves))

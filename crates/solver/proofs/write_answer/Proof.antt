@@ -8,7 +8,7 @@ use Rattle.solver.proofs.write_answer.Lts as lts
 use Rattle.fill.proofs.fill.Reads as fill-reads
 use Rattle.checks.proofs.room_of.Reads as room-of-reads
 use Rattle.show.proofs.answer.Reads as answer-reads
-use Rattle.solver.proofs.finish.Reads as finish-reads
+use Rattle.solver.proofs.reply_to_show.Reads as reply-to-show-reads
 
 pub write-answer-spec : {M : Type 1} → statement M
 write-answer-spec =

@@ -1,0 +1,24 @@
+-- `solver::check_and_solve` meets its contract.
+use Rattle.solver.specs.Leaving.{unless-refused, left-checked}
+use borrow.Author.Needs.{needs}
+use Rattle.solver.proofs.check_and_solve.Statement.{statement}
+use Rattle.solver.proofs.check_and_solve.Tie as tie
+use Rattle.solver.proofs.check_and_solve.Reads as reads
+use Rattle.solver.proofs.check_and_solve.Lts as lts
+use Rattle.checks.proofs.refuse.Reads as refuse-reads
+use Rattle.solver.proofs.solve_unless_refused.Reads as solve-unless-refused-reads
+
+pub check-and-solve-spec : {M : Type 1} → statement M
+check-and-solve-spec =
+    tie.close
+    (tie.spec
+    (λ c κs. search needs)
+    (λ c κs. unless-refused _ _ _ _ _ _ _ _ _ _ (c .before .before .before .before .before .before .before .before .before .before .before .before .before .before .before .before .before .before .before .before .before .before .before .before .before .pre) (c .before .before .before .before .before .before .before .before .before .before .before .before .refuse .ensures))
+    (λ c. search needs)
+    (λ c. search needs)
+    (λ c. search needs)
+    (λ c. search needs)
+    (λ c. search needs)
+    (λ c. search needs)
+    (λ c. search needs)
+    (λ c. search left-checked))

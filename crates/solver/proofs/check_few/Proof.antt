@@ -1,0 +1,23 @@
+-- `solver::check_few` meets its contract.
+use Rattle.solver.specs.Leaving.{zeros-serve}
+use native.Mathlib.Omega.{arith}
+use borrow.Author.Needs.{needs}
+use Rattle.solver.proofs.check_few.Statement.{statement}
+use Rattle.solver.proofs.check_few.Tie as tie
+use Rattle.solver.proofs.check_few.Reads as reads
+use Rattle.solver.proofs.check_few.Lts as lts
+use Rattle.solver.proofs.check_and_solve.Reads as check-and-solve-reads
+
+pub check-few-spec : {M : Type 1} → statement M
+check-few-spec =
+    tie.close
+    (tie.spec
+    (λ c. search needs)
+    (λ c. search needs)
+    (λ c. search needs)
+    (λ c. search needs)
+    (λ c κs. search (zeros-serve 256 (omega arith)))
+    (λ c. search needs)
+    (λ c. search needs)
+    (λ c. search needs)
+    (λ c. search needs))

@@ -1,0 +1,32 @@
+-- `solver::solve_asked` meets its contract.
+use Rattle.solver.specs.Leaving.{left-outside, inside-fits, inside-few, inside-most}
+use borrow.Author.Needs.{needs}
+use Rattle.solver.proofs.solve_asked.Statement.{statement}
+use Rattle.solver.proofs.solve_asked.Tie as tie
+use Rattle.solver.proofs.solve_asked.Reads as reads
+use Rattle.solver.proofs.solve_asked.Lts as lts
+use Rattle.checks.proofs.out_of_room.Reads as out-of-room-reads
+use Rattle.solver.proofs.check_few.Reads as check-few-reads
+use Rattle.solver.proofs.check_all.Reads as check-all-reads
+
+pub solve-asked-spec : {M : Type 1} → statement M
+solve-asked-spec =
+    tie.close
+    (tie.spec
+    (λ c κs. search needs)
+    (λ c κs. search needs)
+    (λ c. search needs)
+    (λ c. search needs)
+    (λ c. search left-outside)
+    (λ c. search inside-fits)
+    (λ c κs. inside-few _ _ _ _ (c .before .before .before .before .before .out-of-room .ensures) (c .before .before .before .before .if1 .left) 256 (c .before .before .before .if2 .taken))
+    (λ c. search needs)
+    (λ c. search needs)
+    (λ c. search needs)
+    (λ c. search needs)
+    (λ c. search inside-fits)
+    (λ c κs. inside-most _ _ _ _ (c .before .before .before .before .before .out-of-room .ensures) (c .before .before .before .before .if1 .left))
+    (λ c. search needs)
+    (λ c. search needs)
+    (λ c. search needs)
+    (λ c. search needs))
