@@ -45,7 +45,7 @@ pub fn read_head(bytes: &mut [u8]) -> bool {
     false
 }
 
-// So many words as bytes, if there is room for them.
+// So many words as bytes; false where there is no room for them or the input is cut off, which is said.
 pub fn read_words(bytes: &mut [u8], count: usize) -> bool
     ensures { λ r. ⌜ (r ≡ true → 4 * count ≤ length (now (bytes .entry))) ⌝ }
 {
