@@ -45,7 +45,7 @@ pub fn read_head(bytes: &mut [u8]) -> bool {
     false
 }
 
-// So many words as bytes, if there is room for them.
+// So many words as bytes; false where there is no room for them or the input is cut off, which is said.
 pub fn read_words(bytes: &mut [u8], count: usize) -> bool
     ensures { λ r. ⌜ (r ≡ true → 4 * count ≤ length (now (bytes .entry))) ⌝ }
 {
@@ -79,10 +79,8 @@ pub fn fill(bytes: &[u8], first: usize, words: &mut [u32]) -> usize
     ensures { λ r. ⌜ (wordsFrom (now (bytes .entry)) first (length (now (words .entry))) ≡ now (words .exit)) × (r ≡ first + length (now (words .entry))) ⌝ }
 {
     let count = words.len();
-    let mut i = 0;
-    while i < count {
+    for i in 0..count {
         words[i] = word(bytes, first + i);
-        i += 1;
     }
     first + count
 }
@@ -100,10 +98,8 @@ fn words_line(line: &mut [u8], at: usize, words: &[u32]) -> usize
     ensures { λ r. ⌜ written at (wordsLine (now (words .entry))) (now (line .entry)) ≡ (now (line .exit), r) ⌝ }
 {
     let mut end = at;
-    let mut i = 0;
-    while i < words.len() {
+    for i in 0..words.len() {
         end = spaced_word(line, end, words[i]);
-        i += 1;
     }
     text::put(line, end, b'\n')
 }

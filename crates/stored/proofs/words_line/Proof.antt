@@ -11,10 +11,10 @@ use Rattle.stored.proofs.words_line.Statement.{statement}
 use Rattle.stored.proofs.words_line.Tie as tie
 
 abbrev Inv-loop : tie.InvT-loop
-Inv-loop line₀ at words end₀ i₀ line end i = (i ≤ length words) × (length line ≡ length line₀) × (written at (spaced words) line₀ ≡ written end (spaced (drop i words)) line)
+Inv-loop line₀ at words end₀ i₀ i-end line end i = (i ≤ length words) × (length line ≡ length line₀) × (written at (spaced words) line₀ ≡ written end (spaced (drop i words)) line)
 
 abbrev μ-loop : tie.MeasureT-loop
-μ-loop line₀ at words end₀ i₀ line end i = length words - i
+μ-loop line₀ at words end₀ i₀ i-end line end i = length words - i
 
 pub words-line-spec : {M : Type 1} → statement M
 words-line-spec =
