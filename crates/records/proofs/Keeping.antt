@@ -1,6 +1,6 @@
 -- A record keeps the rules: its fields, and what else its kind asks.
 use Prim.Native.Nat.{ℕ, _+_, _<_, _≤_}
-use mathlib.Core.Path.{_≡_, refl, sym, _∙_}
+use mathlib.Core.Path.{_≡_, sym, _∙_}
 use mathlib.Core.Bool.{Bool, true, false}
 use mathlib.Core.List.{List}
 use mathlib.Core.Logic.{_⊎_, inl, inr}
@@ -20,6 +20,7 @@ use Rattle.records.specs.Kinds.{field, Above}
 use Rattle.records.specs.Marks.{Marked, used, within, CellAsks, CellSays}
 use Rattle.records.specs.Chains.{ChainAsks, ChainSays}
 use Rattle.records.specs.Rows.{RowAsks, RowSays, RecordAsks, RecordSays}
+use Rattle.records.proofs.Joined.{both-yes, both-outer}
 use Rattle.records.proofs.Ranges.{kind-other}
 use Rattle.records.proofs.Uses.{marked-next}
 use Rattle.records.proofs.Lengths.{listed-other}
@@ -27,19 +28,10 @@ use Rattle.records.proofs.Earlier.{chains-other, new-other}
 
 -- The rules one after the other
 
-keeps-parts : (s l t u : Bool) → both s (both l (both t u)) ≡ both (both s u) (both l t)
-keeps-parts false l t u = unfold both in refl
-keeps-parts true true true true = unfold both in refl
-keeps-parts true true true false = unfold both in refl
-keeps-parts true true false true = unfold both in refl
-keeps-parts true true false false = unfold both in refl
-keeps-parts true false t true = unfold both in refl
-keeps-parts true false t false = unfold both in refl
-
 module _ (ws : List ℕ) (r : ℕ) where
   keeps-is : (k : Bool) → k ≡ both (shaped ws r) (first-use ws r) → keeps ws r ≡ both k (both (listed ws r) (new-type ws r))
   unfolding keeps
-  keeps-is k e = rw e (keeps-parts (shaped ws r) (listed ws r) (new-type ws r) (first-use ws r))
+  keeps-is k e = rw e (both-outer (shaped ws r) (listed ws r) (new-type ws r) (first-use ws r))
 
   pub says-broken : (ms la be : List ℕ) (b : Bool) → RowSays ws ms r b → b ≡ false → RecordSays ws ms la be r b
   says-broken ms la be b s t = record {
@@ -160,12 +152,8 @@ module _ (ws ms la be : List ℕ) (r : ℕ) (p : RecordAsks ws ms la be r) where
           no-type : isType ws r ≡ false
           no-type = cell-no-type ws r (at-tag ∙ c)
 
-          single : (g : Bool) → both true (both g true) ≡ g
-          single true = unfold both in refl
-          single false = unfold both in refl
-
           answer : y ≡ keeps ws r
-          answer = q .answer ∙ sym (keeps-is ws r b (s .answer) ∙ rw (t, new-other ws r no-type) (single (listed ws r)))
+          answer = q .answer ∙ sym (keeps-is ws r b (s .answer) ∙ rw (t, new-other ws r no-type) (unfold both in both-yes (listed ws r)))
 
     pub says-row : within BT AR k ≡ false → (k ≡ CE → ⊥) → (ms₁ : List ℕ) (y : Bool) → length ms₁ ≡ length ms → RowSays ws ms₁ r y → RecordSays ws ms₁ la be r y
     says-row t n ms₁ y lm s =
@@ -180,11 +168,7 @@ module _ (ws ms la be : List ℕ) (r : ℕ) (p : RecordAsks ws ms la be r) where
         }
       where
         answer : (tag ws r ≡ CE → ⊥) → y ≡ keeps ws r
-        answer no-cell = sym (keeps-is ws r y (s .answer) ∙ rw (← listed-other ws r no-cell, new-other ws r (kind-is false t)) (single y))
-          where
-            single : (b : Bool) → both b (both true true) ≡ b
-            single true = unfold both in refl
-            single false = unfold both in refl
+        answer no-cell = sym (keeps-is ws r y (s .answer) ∙ rw (← listed-other ws r no-cell, new-other ws r (kind-is false t)) (unfold both in both-yes y))
 
   unknown : Dec (tag ws r ≡ 0) → (0 < tag ws r → EQ < tag ws r) → shape ws r ≡ (never, never, never)
   unfolding shape shapes
