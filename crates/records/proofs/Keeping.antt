@@ -6,8 +6,9 @@ use mathlib.Core.List.{List}
 use mathlib.Core.Logic.{_⊎_, inl, inr}
 use native.Mathlib.Omega.{arith}
 use native.Mathlib.Decide.{ℕ-discrete}
-use borrow.Author.Tests.{ltb-true, eqb-true}
+use borrow.Author.Tests.{ltb-true, leb-true, eqb-true, eq-eqb}
 use lib.ListN.{length, getD, List·getD-eq-default}
+use lib.Dec.{eqb, leb}
 use Rattle.rules.specs.Lists.{both}
 use Rattle.rules.specs.Words.{BT, AR, CE, EQ, tag, fieldB, isType}
 use Rattle.rules.specs.Records.{never, shapes, shape, fits, shaped, listed, new-type, first-use, keeps}
@@ -83,8 +84,8 @@ module _ (ws ms la be : List ℕ) (r : ℕ) (p : RecordAsks ws ms la be r) where
     at-tag : tag ws r ≡ k
     at-tag = sym (w .tag-is) ∙ e
 
-    pub row-asks : k ≤ EQ → (a b c : Field) → getD shapes k (never, never, never) ≡ (field a, field b, field c) → RowAsks ws ms r a b c
-    row-asks l a b c h = let m = p .room .marks in let q = at-tag in record {
+    pub row-asks : leb k EQ ≡ true → (a b c : Field) → getD shapes k (never, never, never) ≡ (field a, field b, field c) → RowAsks ws ms r a b c
+    row-asks l a b c h = let m = p .room .marks in let q = at-tag in let n = leb-true k EQ l in record {
       above = above;
       row = shape-at ws r k at-tag a b c h;
       tag-low = omega arith;
@@ -155,9 +156,9 @@ module _ (ws ms la be : List ℕ) (r : ℕ) (p : RecordAsks ws ms la be r) where
           answer : y ≡ keeps ws r
           answer = q .answer ∙ sym (keeps-is ws r b (s .answer) ∙ rw (t, new-other ws r no-type) (unfold both in both-yes (listed ws r)))
 
-    pub says-row : within BT AR k ≡ false → (k ≡ CE → ⊥) → (ms₁ : List ℕ) (y : Bool) → length ms₁ ≡ length ms → RowSays ws ms₁ r y → RecordSays ws ms₁ la be r y
+    pub says-row : within BT AR k ≡ false → eqb k CE ≡ false → (ms₁ : List ℕ) (y : Bool) → length ms₁ ≡ length ms → RowSays ws ms₁ r y → RecordSays ws ms₁ la be r y
     says-row t n ms₁ y lm s =
-        let no-cell : tag ws r ≡ CE → ⊥ = λ q. n (sym at-tag ∙ q) in
+        let no-cell : tag ws r ≡ CE → ⊥ = λ q. false-true (sym n ∙ eq-eqb k CE (sym at-tag ∙ q)) in
         record {
           answer = answer no-cell;
           next = λ v. record {
