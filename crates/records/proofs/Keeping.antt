@@ -10,7 +10,7 @@ use borrow.Author.Tests.{ltb-true, leb-true, eqb-true, eq-eqb}
 use lib.ListN.{length, getD, List·getD-eq-default}
 use lib.Dec.{eqb, leb}
 use Rattle.rules.specs.Lists.{both}
-use Rattle.rules.specs.Words.{BT, AR, CE, EQ, tag, fieldB, isType}
+use Rattle.rules.specs.Words.{BT, AR, KO, HO, CE, LA, CA, VA, HA, EQ, tag, fieldB, isType}
 use Rattle.rules.specs.Records.{never, shapes, shape, fits, shaped, listed, new-type, first-use, keeps}
 use Rattle.laws.specs.Tests.{false-true, both-true}
 use Rattle.laws.specs.Sound.{Sound, type-tag}
@@ -68,6 +68,9 @@ module _ (ws : List ℕ) (r : ℕ) where
   shape-at k e a b c h = rw e h
 
 -- A record, by tag
+
+past : (k m : ℕ) → m ≤ k → (k ≡ m → ⊥) → m < k
+past k m h n = omega arith
 
 module _ (ws ms la be : List ℕ) (r : ℕ) (p : RecordAsks ws ms la be r) where
   above : Above ws r
@@ -171,19 +174,23 @@ module _ (ws ms la be : List ℕ) (r : ℕ) (p : RecordAsks ws ms la be r) where
         answer : (tag ws r ≡ CE → ⊥) → y ≡ keeps ws r
         answer no-cell = sym (keeps-is ws r y (s .answer) ∙ rw (← listed-other ws r no-cell, new-other ws r (kind-is false t)) (unfold both in both-yes y))
 
-  unknown : Dec (tag ws r ≡ 0) → (0 < tag ws r → EQ < tag ws r) → shape ws r ≡ (never, never, never)
-  unfolding shape shapes
-  unknown (yes e) h = rw e
-  unknown (no z) h =
-      let l : EQ < tag ws r = h (omega arith) in
-      let m : length shapes ≤ tag ws r = omega arith in
-      List·getD-eq-default shapes (never, never, never) m
+  -- no tag of the table
+  module _ (x : Record) (w : IsRecord ws r x) (no-bt : x .tag ≡ BT → ⊥) (no-ar : x .tag ≡ AR → ⊥) (no-ko : x .tag ≡ KO → ⊥) (no-ho : x .tag ≡ HO → ⊥) (no-ce : x .tag ≡ CE → ⊥)
+      (no-la : x .tag ≡ LA → ⊥) (no-ca : x .tag ≡ CA → ⊥) (no-va : x .tag ≡ VA → ⊥) (no-ha : x .tag ≡ HA → ⊥) (no-eq : x .tag ≡ EQ → ⊥) where
+    past-all : 0 < x .tag → EQ < x .tag
+    past-all h = past _ EQ (past _ HA (past _ VA (past _ CA (past _ LA (past _ CE (past _ HO (past _ KO (past _ AR (past _ BT h no-bt) no-ar) no-ko) no-ho) no-ce) no-la) no-ca) no-va) no-ha) no-eq
 
-  pub says-unknown : (x : Record) → IsRecord ws r x → (0 < x .tag → EQ < x .tag) → RecordSays ws ms la be r false
-  says-unknown x w h = record {
-    answer = let e = unknown (ℕ-discrete (tag ws r) 0) (rw (w .tag-is) at h) in unfold keeps in unfold shaped in unfold fits in unfold both in rw e;
-    next = λ v. absurd (false-true v);
-  }
+    unknown : Dec (tag ws r ≡ 0) → shape ws r ≡ (never, never, never)
+    unfolding shape shapes
+    unknown (yes e) = rw e
+    unknown (no z) =
+        let e = w .tag-is in
+        let l : EQ < x .tag = past-all (past _ 0 (omega arith) (λ q. z (sym e ∙ q))) in
+        let m : length shapes ≤ tag ws r = omega arith in
+        List·getD-eq-default shapes (never, never, never) m
 
-pub past : (k m : ℕ) → m ≤ k → (k ≡ m → ⊥) → m + 1 ≤ k
-past k m h n = omega arith
+    pub says-unknown : RecordSays ws ms la be r false
+    says-unknown = record {
+      answer = let e = unknown (ℕ-discrete (tag ws r) 0) in unfold keeps in unfold shaped in unfold fits in unfold both in rw e;
+      next = λ v. absurd (false-true v);
+    }
