@@ -9,7 +9,7 @@ use lib.Dec.{eqb}
 use Rattle.rules.specs.Lists.{both, either, all, any, among, distinct, from, below}
 use Rattle.rules.specs.Records.{uses, first-use}
 use Rattle.records.specs.Marks.{used, fresh}
-use Rattle.records.proofs.Joined.{all-below, among-append, both-swap}
+use Rattle.records.proofs.Joined.{all-below, among-append, both-turn, both-swap, both-outer}
 
 -- Lists and tests
 
@@ -55,14 +55,7 @@ fresh-is (x ∷ xs) u =
         ap (λ b. both b (all (λ y. not (among u y)) xs)) (none-is x xs)
 
     shuffle : (a d n r : Bool) → both a (both d (both n r)) ≡ both (both n d) (both a r)
-    shuffle true true true r = unfold both in refl
-    shuffle true true false r = unfold both in refl
-    shuffle true false true r = unfold both in refl
-    shuffle true false false r = unfold both in refl
-    shuffle false true true r = unfold both in refl
-    shuffle false true false r = unfold both in refl
-    shuffle false false true r = unfold both in refl
-    shuffle false false false r = unfold both in refl
+    shuffle a d n r = both-outer a d n r ∙ both-turn (both a r) (both d n) ∙ ap (λ b. both b (both a r)) (both-turn d n)
 
 unused : (ws : List ℕ) (r x : ℕ) → all (λ j. not (among (uses ws j) x)) (below r) ≡ not (among (used ws r) x)
 unfolding used

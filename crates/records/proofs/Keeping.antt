@@ -1,15 +1,16 @@
 -- A record keeps the rules: its fields, and what else its kind asks.
 use Prim.Native.Nat.{ℕ, _+_, _<_, _≤_}
-use mathlib.Core.Path.{_≡_, refl, sym, _∙_}
+use mathlib.Core.Path.{_≡_, sym, _∙_}
 use mathlib.Core.Bool.{Bool, true, false}
 use mathlib.Core.List.{List}
 use mathlib.Core.Logic.{_⊎_, inl, inr}
 use native.Mathlib.Omega.{arith}
 use native.Mathlib.Decide.{ℕ-discrete}
-use borrow.Author.Tests.{ltb-true, eqb-true}
+use borrow.Author.Tests.{ltb-true, leb-true, eqb-true, eq-eqb}
 use lib.ListN.{length, getD, List·getD-eq-default}
+use lib.Dec.{eqb, leb}
 use Rattle.rules.specs.Lists.{both}
-use Rattle.rules.specs.Words.{BT, AR, CE, EQ, tag, fieldB, isType}
+use Rattle.rules.specs.Words.{BT, AR, KO, HO, CE, LA, CA, VA, HA, EQ, tag, fieldB, isType}
 use Rattle.rules.specs.Records.{never, shapes, shape, fits, shaped, listed, new-type, first-use, keeps}
 use Rattle.laws.specs.Tests.{false-true, both-true}
 use Rattle.laws.specs.Sound.{Sound, type-tag}
@@ -20,6 +21,7 @@ use Rattle.records.specs.Kinds.{field, Above}
 use Rattle.records.specs.Marks.{Marked, used, within, CellAsks, CellSays}
 use Rattle.records.specs.Chains.{ChainAsks, ChainSays}
 use Rattle.records.specs.Rows.{RowAsks, RowSays, RecordAsks, RecordSays}
+use Rattle.records.proofs.Joined.{both-yes, both-outer}
 use Rattle.records.proofs.Ranges.{kind-other}
 use Rattle.records.proofs.Uses.{marked-next}
 use Rattle.records.proofs.Lengths.{listed-other}
@@ -27,19 +29,10 @@ use Rattle.records.proofs.Earlier.{chains-other, new-other}
 
 -- The rules one after the other
 
-keeps-parts : (s l t u : Bool) → both s (both l (both t u)) ≡ both (both s u) (both l t)
-keeps-parts false l t u = unfold both in refl
-keeps-parts true true true true = unfold both in refl
-keeps-parts true true true false = unfold both in refl
-keeps-parts true true false true = unfold both in refl
-keeps-parts true true false false = unfold both in refl
-keeps-parts true false t true = unfold both in refl
-keeps-parts true false t false = unfold both in refl
-
 module _ (ws : List ℕ) (r : ℕ) where
   keeps-is : (k : Bool) → k ≡ both (shaped ws r) (first-use ws r) → keeps ws r ≡ both k (both (listed ws r) (new-type ws r))
   unfolding keeps
-  keeps-is k e = rw e (keeps-parts (shaped ws r) (listed ws r) (new-type ws r) (first-use ws r))
+  keeps-is k e = rw e (both-outer (shaped ws r) (listed ws r) (new-type ws r) (first-use ws r))
 
   pub says-broken : (ms la be : List ℕ) (b : Bool) → RowSays ws ms r b → b ≡ false → RecordSays ws ms la be r b
   says-broken ms la be b s t = record {
@@ -76,6 +69,9 @@ module _ (ws : List ℕ) (r : ℕ) where
 
 -- A record, by tag
 
+past : (k m : ℕ) → m ≤ k → (k ≡ m → ⊥) → m < k
+past k m h n = omega arith
+
 module _ (ws ms la be : List ℕ) (r : ℕ) (p : RecordAsks ws ms la be r) where
   above : Above ws r
   above = record { inside = p .inside; few = p .few; lower = p .passed .lower }
@@ -91,8 +87,8 @@ module _ (ws ms la be : List ℕ) (r : ℕ) (p : RecordAsks ws ms la be r) where
     at-tag : tag ws r ≡ k
     at-tag = sym (w .tag-is) ∙ e
 
-    pub row-asks : k ≤ EQ → (a b c : Field) → getD shapes k (never, never, never) ≡ (field a, field b, field c) → RowAsks ws ms r a b c
-    row-asks l a b c h = let m = p .room .marks in let q = at-tag in record {
+    pub row-asks : leb k EQ ≡ true → (a b c : Field) → getD shapes k (never, never, never) ≡ (field a, field b, field c) → RowAsks ws ms r a b c
+    row-asks l a b c h = let m = p .room .marks in let q = at-tag in let n = leb-true k EQ l in record {
       above = above;
       row = shape-at ws r k at-tag a b c h;
       tag-low = omega arith;
@@ -160,16 +156,12 @@ module _ (ws ms la be : List ℕ) (r : ℕ) (p : RecordAsks ws ms la be r) where
           no-type : isType ws r ≡ false
           no-type = cell-no-type ws r (at-tag ∙ c)
 
-          single : (g : Bool) → both true (both g true) ≡ g
-          single true = unfold both in refl
-          single false = unfold both in refl
-
           answer : y ≡ keeps ws r
-          answer = q .answer ∙ sym (keeps-is ws r b (s .answer) ∙ rw (t, new-other ws r no-type) (single (listed ws r)))
+          answer = q .answer ∙ sym (keeps-is ws r b (s .answer) ∙ rw (t, new-other ws r no-type) (unfold both in both-yes (listed ws r)))
 
-    pub says-row : within BT AR k ≡ false → (k ≡ CE → ⊥) → (ms₁ : List ℕ) (y : Bool) → length ms₁ ≡ length ms → RowSays ws ms₁ r y → RecordSays ws ms₁ la be r y
+    pub says-row : within BT AR k ≡ false → eqb k CE ≡ false → (ms₁ : List ℕ) (y : Bool) → length ms₁ ≡ length ms → RowSays ws ms₁ r y → RecordSays ws ms₁ la be r y
     says-row t n ms₁ y lm s =
-        let no-cell : tag ws r ≡ CE → ⊥ = λ q. n (sym at-tag ∙ q) in
+        let no-cell : tag ws r ≡ CE → ⊥ = λ q. false-true (sym n ∙ eq-eqb k CE (sym at-tag ∙ q)) in
         record {
           answer = answer no-cell;
           next = λ v. record {
@@ -180,25 +172,25 @@ module _ (ws ms la be : List ℕ) (r : ℕ) (p : RecordAsks ws ms la be r) where
         }
       where
         answer : (tag ws r ≡ CE → ⊥) → y ≡ keeps ws r
-        answer no-cell = sym (keeps-is ws r y (s .answer) ∙ rw (← listed-other ws r no-cell, new-other ws r (kind-is false t)) (single y))
-          where
-            single : (b : Bool) → both b (both true true) ≡ b
-            single true = unfold both in refl
-            single false = unfold both in refl
+        answer no-cell = sym (keeps-is ws r y (s .answer) ∙ rw (← listed-other ws r no-cell, new-other ws r (kind-is false t)) (unfold both in both-yes y))
 
-  unknown : Dec (tag ws r ≡ 0) → (0 < tag ws r → EQ < tag ws r) → shape ws r ≡ (never, never, never)
-  unfolding shape shapes
-  unknown (yes e) h = rw e
-  unknown (no z) h =
-      let l : EQ < tag ws r = h (omega arith) in
-      let m : length shapes ≤ tag ws r = omega arith in
-      List·getD-eq-default shapes (never, never, never) m
+  -- no tag of the table
+  module _ (x : Record) (w : IsRecord ws r x) (no-bt : x .tag ≡ BT → ⊥) (no-ar : x .tag ≡ AR → ⊥) (no-ko : x .tag ≡ KO → ⊥) (no-ho : x .tag ≡ HO → ⊥) (no-ce : x .tag ≡ CE → ⊥)
+      (no-la : x .tag ≡ LA → ⊥) (no-ca : x .tag ≡ CA → ⊥) (no-va : x .tag ≡ VA → ⊥) (no-ha : x .tag ≡ HA → ⊥) (no-eq : x .tag ≡ EQ → ⊥) where
+    past-all : 0 < x .tag → EQ < x .tag
+    past-all h = past _ EQ (past _ HA (past _ VA (past _ CA (past _ LA (past _ CE (past _ HO (past _ KO (past _ AR (past _ BT h no-bt) no-ar) no-ko) no-ho) no-ce) no-la) no-ca) no-va) no-ha) no-eq
 
-  pub says-unknown : (x : Record) → IsRecord ws r x → (0 < x .tag → EQ < x .tag) → RecordSays ws ms la be r false
-  says-unknown x w h = record {
-    answer = let e = unknown (ℕ-discrete (tag ws r) 0) (rw (w .tag-is) at h) in unfold keeps in unfold shaped in unfold fits in unfold both in rw e;
-    next = λ v. absurd (false-true v);
-  }
+    unknown : Dec (tag ws r ≡ 0) → shape ws r ≡ (never, never, never)
+    unfolding shape shapes
+    unknown (yes e) = rw e
+    unknown (no z) =
+        let e = w .tag-is in
+        let l : EQ < x .tag = past-all (past _ 0 (omega arith) (λ q. z (sym e ∙ q))) in
+        let m : length shapes ≤ tag ws r = omega arith in
+        List·getD-eq-default shapes (never, never, never) m
 
-pub past : (k m : ℕ) → m ≤ k → (k ≡ m → ⊥) → m + 1 ≤ k
-past k m h n = omega arith
+    pub says-unknown : RecordSays ws ms la be r false
+    says-unknown = record {
+      answer = let e = unknown (ℕ-discrete (tag ws r) 0) in unfold keeps in unfold shaped in unfold fits in unfold both in rw e;
+      next = λ v. absurd (false-true v);
+    }

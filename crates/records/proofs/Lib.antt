@@ -1,4 +1,4 @@
-pub mod Joined  -- tests over joined lists
+pub mod Joined  -- tests in any order and over joined lists
 pub mod Ranges  -- the kind of a record, as its mark tells it
 pub mod Judging  -- one mark is read and judged
 pub mod Earlier  -- types are new

@@ -1,10 +1,10 @@
 -- One more record is noted if it is an equation.
-use Prim.Native.Nat.{ℕ, _+_, _<_}
+use Prim.Native.Nat.{ℕ, _+_}
 use mathlib.Core.Path.{_≡_}
 use mathlib.Core.List.{List}
 use native.Mathlib.Omega.{arith}
-use borrow.Author.Tests.{eq-eqb, ne-eqb}
-use lib.ListN.{length, set}
+use borrow.Author.Tests.{ne-eqb}
+use lib.ListN.{set}
 use Rattle.rules.specs.Words.{EQ, has}
 use Rattle.laws.specs.Noted.{noted-other, noted-one}
 use Rattle.table.specs.declared.Record.{Record}
