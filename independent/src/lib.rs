@@ -12,6 +12,7 @@ pub mod stored;
 pub mod text;
 pub mod tree;
 pub mod words;
+pub mod write;
 
 pub use machine::refuse::check;
 pub use machine::show::show;
@@ -19,3 +20,4 @@ pub use machine::solve::solve;
 pub use program::program;
 pub use read::read;
 pub use reply::Reply;
+pub use write::write;

@@ -4,6 +4,7 @@ use independent::commands::check_seeds::check_seeds;
 use independent::commands::expected::write_expected;
 use independent::commands::files::write_files;
 use independent::commands::words::write_words;
+use independent::commands::writes::write_writes;
 use independent::generate::Scale;
 use independent::stored::stream;
 use independent::text::{assemble, disassemble};
@@ -15,9 +16,10 @@ const USAGE: &str = "usage:
   independent run                               problem file on standard input, the program's print out
   independent asm [FILE]                        text form to a problem file, on standard output
   independent disasm [FILE]                     problem file to text form, on standard output
-  independent check-seeds SEED COUNT [--small]  solve, show and self-check generated problems
+  independent check-seeds SEED COUNT [--small]  solve, show, write and self-check generated problems
   independent words SEED COUNT [--small]        generated problems and what solve and show leave
   independent files SEED COUNT [--small]        generated files and what read leaves
+  independent writes SEED COUNT [--small]       generated tables and the file that write leaves
   independent expected EXAMPLES OUT             the program's print for each example of a folder
   independent checks-in | checks-out            the stored checks, and answer and place of each
   independent replay-in | replay-out            the stored calls, and what each leaves
@@ -50,6 +52,10 @@ fn command(arguments: &[String]) -> Result<ExitCode, String> {
         ["files", rest @ ..] => {
             let (seed, count, scale) = seeds(rest)?;
             to_output(|out| write_files(out, seed, count, scale))
+        }
+        ["writes", rest @ ..] => {
+            let (seed, count, scale) = seeds(rest)?;
+            to_output(|out| write_writes(out, seed, count, scale))
         }
         ["check-seeds", rest @ ..] => {
             let (seed, count, scale) = seeds(rest)?;

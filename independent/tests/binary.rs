@@ -50,3 +50,10 @@ fn check_seeds_succeeds_without_faults() {
     assert_eq!(output.status.code(), Some(0));
     assert!(output.stdout.ends_with(b"faults: 0\n"));
 }
+
+#[test]
+fn writes_prints_a_block_for_each_table() {
+    let output = independent(&["writes", "3", "20", "--small"], b"");
+    assert_eq!(output.status.code(), Some(0));
+    assert!(output.stdout.starts_with(b"problem 0 ") && output.stdout.ends_with(b"\nend\n"));
+}

@@ -2,8 +2,10 @@
 
 use crate::generate::files::file_problem;
 use crate::generate::problem::Kind;
+use crate::generate::writes::{write_problem, WriteProblem};
 use crate::generate::{problem, Scale};
 use crate::selfcheck::files::file_faults;
+use crate::selfcheck::writes::{check_write, written_back_faults, WriteReport};
 use crate::selfcheck::{check_problem, describe, Report};
 use std::collections::BTreeMap;
 use std::io::{self, Write};
@@ -15,6 +17,9 @@ const PROBLEMS_PER_FILE: u64 = 10;
 /// How many faults are described.
 const MOST_DESCRIBED: usize = 10;
 
+/// The answers that writing has.
+const WRITE_ANSWERS: [u32; 4] = [0, 4, 5, 14];
+
 /// The answers of one kind, counted.
 type Histogram = BTreeMap<(char, &'static str), [u64; 14]>;
 
@@ -22,6 +27,7 @@ type Histogram = BTreeMap<(char, &'static str), [u64; 14]>;
 #[derive(Default)]
 struct Sum {
     histogram: Histogram,
+    writes: BTreeMap<char, [u64; WRITE_ANSWERS.len()]>,
     counts: BTreeMap<&'static str, u64>,
     faults: u64,
     described: Vec<String>,
@@ -68,6 +74,16 @@ impl Sum {
         self.count("searched by brute force after 1, 2, 3", failed && report.searched.is_some());
         self.count("equations turned round", report.reordered);
     }
+
+    fn write(&mut self, given: &WriteProblem, report: &WriteReport) {
+        let counted = self.writes.entry(given.kind.letter()).or_default();
+        let slots = counted.iter_mut().zip(WRITE_ANSWERS);
+        slots.filter(|(_, answer)| *answer == report.answer).for_each(|(slot, _)| *slot += 1);
+        self.count("write and solve both refuse with 5", report.refused_by_both);
+        let used = report.solved;
+        self.count("left by solving, at most 2,048 records, written", used.is_some_and(|used| used <= 2048));
+        self.count("left by solving, above 2,048 records, refused", used.is_some_and(|used| used > 2048));
+    }
 }
 
 /// Checks all problems; answers how many faults there were.
@@ -80,10 +96,15 @@ pub fn check_seeds(out: &mut dyn Write, seed: u64, count: u64, scale: Scale) -> 
         sum.faults(format!("problem {index} ({})", describe(&given)), report.faults);
         if index % PROBLEMS_PER_FILE == 0 {
             let given = file_problem(seed, index / PROBLEMS_PER_FILE, scale);
-            let (answer, faults) = file_faults(&given);
+            let (answer, mut faults) = file_faults(&given);
+            faults.extend(written_back_faults(&given.file));
             sum.answer('f', "read", answer);
             sum.faults(format!("file {}", index / PROBLEMS_PER_FILE), faults);
         }
+        let given = write_problem(seed, index, scale);
+        let report = check_write(&given);
+        sum.write(&given, &report);
+        sum.faults(format!("table {index} (kind {} n {})", given.kind.letter(), given.n), report.faults);
     }
     write_sum(out, &sum)?;
     Ok(sum.faults)
@@ -98,6 +119,7 @@ fn write_sum(out: &mut dyn Write, sum: &Sum) -> io::Result<()> {
         answers.iter().try_for_each(|count| write!(out, "{count:>7}"))?;
         writeln!(out)?;
     }
+    write_writes(out, sum)?;
     for (what, count) in &sum.counts {
         writeln!(out, "{what}: {count}")?;
     }
@@ -105,4 +127,17 @@ fn write_sum(out: &mut dyn Write, sum: &Sum) -> io::Result<()> {
         writeln!(out, "{fault}")?;
     }
     writeln!(out, "faults: {}", sum.faults)
+}
+
+/// The answers of writing, a line for each kind of table.
+fn write_writes(out: &mut dyn Write, sum: &Sum) -> io::Result<()> {
+    write!(out, "table call ")?;
+    WRITE_ANSWERS.iter().try_for_each(|answer| write!(out, "{answer:>7}"))?;
+    writeln!(out)?;
+    for (kind, answers) in &sum.writes {
+        write!(out, "{kind}     write")?;
+        answers.iter().try_for_each(|count| write!(out, "{count:>7}"))?;
+        writeln!(out)?;
+    }
+    Ok(())
 }

@@ -4,3 +4,4 @@ pub mod check_seeds;
 pub mod expected;
 pub mod files;
 pub mod words;
+pub mod writes;

@@ -1,13 +1,16 @@
 //! The generator: whole problems of all kinds from a seed, the same for the same seed.
 
 pub mod alter;
+pub mod append;
 pub mod bare;
 pub mod crowd;
 pub mod damage;
 pub mod edges;
+pub mod edit;
 pub mod files;
 pub mod grow;
 pub mod lay;
+pub mod long;
 pub mod many_types;
 pub mod noise;
 pub mod problem;
@@ -16,6 +19,7 @@ pub mod short;
 pub mod sketch;
 pub mod typed;
 pub mod wide;
+pub mod writes;
 
 use crate::random::Random;
 use crate::words::Record;

@@ -82,11 +82,8 @@ pub struct Sizes {
 impl Problem {
     /// A problem of these records in slices of these sizes, other words being litter.
     pub fn of_made(kind: Kind, made: &Made, sizes: Sizes, random: &mut Random) -> Problem {
-        let mut table = litter(random, sizes.table);
         let records = &made.records;
-        for (number, &record) in records.iter().enumerate() {
-            put(&mut table, number, record);
-        }
+        let table = table_of(records, sizes.table, random);
         let hole = some_hole(records, random);
         Problem {
             kind,
@@ -110,6 +107,15 @@ fn some_hole(records: &[Record], random: &mut Random) -> usize {
         1 => random.pick(&[usize::MAX, 4095, 4096, u32::MAX as usize]).unwrap_or(0),
         _ => random.pick(&holes).unwrap_or(random.below(records.len() + 1)),
     }
+}
+
+/// So many words: these records, as far as they fit, then litter.
+pub fn table_of(records: &[Record], words: usize, random: &mut Random) -> Vec<u32> {
+    let mut table = litter(random, words);
+    for (number, &record) in records.iter().enumerate() {
+        put(&mut table, number, record);
+    }
+    table
 }
 
 /// Words left over from something else.

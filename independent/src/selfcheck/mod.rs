@@ -12,6 +12,7 @@ pub mod search;
 pub mod shown;
 pub mod solved;
 pub mod typed;
+pub mod writes;
 
 use crate::generate::problem::Problem;
 use crate::machine::show::show;
