@@ -1,5 +1,5 @@
 -- Types are new: equal types have equal b, so a search goes down one chain.
-use Prim.Native.Nat.{ℕ, zero, suc, _+_, _-_, _<_, _≤_}
+use Prim.Native.Nat.{ℕ, zero, suc, _+_, _-_, _*_, _<_, _≤_}
 use mathlib.Core.Path.{_≡_, refl, sym, ap, _∙_}
 use mathlib.Core.Bool.{Bool, true, false, not}
 use mathlib.Core.List.{List}
@@ -162,6 +162,9 @@ module _ (ws la be : List ℕ) (r : ℕ) (p : ChainAsks ws la be r) (x : Record)
   pub key-low : x .b < length la
   key-low = let k = p .key in let h = p .room-last in let e = w .b-is in omega arith
 
+  pub key-few : x .b < 4096
+  key-few = let k = p .key in let f = p .few in let e = w .b-is in omega arith
+
   top-is : getD la (x .b) 0 ≡ latest ws (fieldB ws r) r
   top-is = p .known .last (x .b) key-low ∙ ap (λ b. latest ws b r) (w .b-is)
 
@@ -176,8 +179,17 @@ module _ (ws la be : List ℕ) (r : ℕ) (p : ChainAsks ws la be r) (x : Record)
     one-less : j ≡ suc (j - 1)
     one-less = omega arith
 
-    pub at-low : j - 1 < r
+    at-low : j - 1 < r
     at-low = let l = s .low in omega arith
+
+    pub at-few : j - 1 < 4096
+    at-few = let l = at-low in let f = p .few in omega arith
+
+    pub at-inside : 4 * (j - 1) + 3 < length ws
+    at-inside = let l = at-low in let i = p .inside in omega arith
+
+    pub at-room : j - 1 < length be
+    at-room = let l = at-low in let h = p .room-before in omega arith
 
     member : both (isType ws (j - 1)) (eqb (fieldB ws (j - 1)) (fieldB ws r)) ≡ true
     member = latest-member ws (fieldB ws r) (j - 1) (rw one-less at (s .own))
