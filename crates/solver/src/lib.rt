@@ -148,10 +148,11 @@ fn solve_admitted(
             used: records,
         },
         Ran::Failed(failure) => {
+            let answer = number_of(failure);
             let used = first_unused(table, n, room);
             clear(table, solutions, n, used);
             Reply {
-                answer: number_of(failure),
+                answer,
                 place: 0,
                 used: 0,
             }
