@@ -168,14 +168,13 @@ module _ (R n : ℕ) (ws ss es : List ℕ) (k : ℕ) (a : Admits R n ws ss es k)
   pub admits-room : (ws₁ : List ℕ) → length ws₁ ≡ length ws → 4 * R ≤ length ws₁
   admits-room ws₁ e = let r = admits-clearing .room in omega arith
 
-  pub written-clearing : (ws₁ ss₁ : List ℕ) (u : ℕ) → Unused n R ws₁ u → length ws₁ ≡ length ws → length ss₁ ≡ length ss → Clearing n u ws₁ ss₁
-  written-clearing ws₁ ss₁ u found e f =
+  pub clearing-to : (ws₁ ss₁ : List ℕ) (u : ℕ) → n ≤ u → u ≤ R → length ws₁ ≡ length ws → length ss₁ ≡ length ss → Clearing n u ws₁ ss₁
+  clearing-to ws₁ ss₁ u since within e f =
       let c = admits-clearing in
       let r = c .room in
       let h = c .held in
       let k = c .few in
-      let w = found .passed .within in
-      record { in-table = found .passed .since; few = omega arith; room = omega arith; held = omega arith }
+      record { in-table = since; few = omega arith; room = omega arith; held = omega arith }
 
   -- to clear again what was cleared changes nothing
   again-table : filled (4 * n) (4 * (R - n)) 0 (start ws ss n .words) ≡ start ws ss n .words

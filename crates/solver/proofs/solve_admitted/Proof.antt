@@ -1,5 +1,5 @@
 -- `solver::solve_admitted` meets its contract.
-use Rattle.solver.specs.Running.{admits-inside, admits-room, left-solved, written-clearing, left-failed}
+use Rattle.solver.specs.Running.{admits-inside, admits-room, left-solved, clearing-to, left-failed}
 use borrow.Author.Needs.{needs}
 use Rattle.solver.proofs.solve_admitted.Statement.{statement}
 use Rattle.solver.proofs.solve_admitted.Tie as tie
@@ -19,7 +19,7 @@ solve-admitted-spec =
     (λ c. search needs)
     (λ c κs. search needs)
     (λ c κs. search (admits-inside, admits-room))
-    (λ c κs. search written-clearing)
+    (λ c κs. search (clearing-to, admits-inside, needs))
     (λ c. search needs)
     (λ c. search needs)
     (λ c. search needs)
