@@ -17,7 +17,7 @@ use Rattle.rules.specs.Answers.{number, reply, records, pairs}
 use Rattle.rules.specs.Store.{Store, goes, fails, _>>=_}
 use Rattle.rules.specs.Machine.{join, run, steps, equations, machine}
 use Rattle.rules.specs.Solve.{admitted, refusal, filled, start, emptied, Behind, leaves, solve}
-use Rattle.invariants.specs.Floor.{Rest, Stopped, Grows}
+use Rattle.invariants.specs.Floor.{Stopped, Grows}
 use Rattle.invariants.specs.Start.{records-few, records-room, filled-below, start-running}
 use Rattle.invariants.specs.Admit.{Admitted}
 use Rattle.invariants.specs.Machine.{machine-grows}
@@ -49,6 +49,11 @@ pub record Machines (R C n : ℕ) (ws ss qs ws₁ ss₁ qs₁ : List ℕ) (x : R
   pub run : machine R C n (store ws ss n) ≡ ended ws₁ ss₁ x
   pub queue : filled 0 (2 * C) 0 qs₁ ≡ filled 0 (2 * C) 0 qs
 
+-- the machine from its start to its end, with the queue emptied
+pub record Runs (R n : ℕ) (ws ss qs ws₁ ss₁ qs₁ : List ℕ) (x : Ran) : Type 0 where
+  pub run : machine R (pairs qs) n (start ws ss n) ≡ ended ws₁ ss₁ x
+  pub queue : emptied qs ≡ qs₁
+
 -- this paper's number of each failure
 module _ (e : Failure) where
   pub is-clash : e ≡ Clash → number e ≡ 1
@@ -70,32 +75,6 @@ module _ (e : Failure) where
   pub is-table-full : e ≡ TableFull → number e ≡ 9
   unfolding number
   is-table-full q = rw q
-
--- what the reply's words are made from: after a failure, what was not written is still cleared
-pub record MachineEnded (n R : ℕ) (ws ss : List ℕ) (x : Ran) : Type 0 where
-  pub clearing : Clearing n R ws ss
-  pub rest : (e : Failure) → x ≡ Failed e → Rest R n ws ss
-
--- the reply, and the words left
-pub record MachineReply (n R : ℕ) (ws ss : List ℕ) (x : Ran) (ws₁ ss₁ : List ℕ) (r : Reply) : Type 0 where
-  pub solved : (u : ℕ) → x ≡ Solved u → (ws ≡ ws₁) × (ss ≡ ss₁) × (reply 0 0 u ≡ r)
-  pub failed : (e : Failure) → x ≡ Failed e → Cleared n R ws ss ws₁ ss₁ × (reply (number e) 0 0 ≡ r)
-
-module _ (n R : ℕ) (ws ss : List ℕ) (x : Ran) where
-  pub machine-replied : (u : ℕ) → x ≡ Solved u → MachineReply n R ws ss x ws ss (reply 0 0 u)
-  machine-replied u e =
-      record {
-        solved = λ v q. let z : u ≡ v = cc in (refl, refl, ap (λ (k : ℕ). reply 0 0 k) (sym z));
-        failed = λ f q. let z : _≡_ {A = ℕ} 0 1 = cc in absurd (omega arith);
-      }
-
-  pub machine-failed : (e : Failure) (u k : ℕ) (ws₁ ss₁ : List ℕ) → MachineEnded n R ws ss x → x ≡ Failed e → Unused n R ws u → Cleared n u ws ss ws₁ ss₁ → number e ≡ k
-      → MachineReply n R ws ss x ws₁ ss₁ (reply k 0 0)
-  machine-failed e u k ws₁ ss₁ h q found c m =
-      record {
-        solved = λ v p. let z : _≡_ {A = ℕ} 0 1 = cc in absurd (omega arith);
-        failed = λ f p. let z : e ≡ f = cc in (cleared-all n R u ws ss (h .clearing) found ws₁ ss₁ (h .rest e q) c, ap (λ (j : ℕ). reply j 0 0) (ap number (sym z) ∙ m));
-      }
 
 -- the part of the queue that is lent on
 module _ (R C n : ℕ) (ws ss qs es : List ℕ) (k : ℕ) (h : Started R n ws ss qs C es k) where
@@ -178,47 +157,66 @@ module _ (R n : ℕ) (ws ss es : List ℕ) (k : ℕ) (a : Admits R n ws ss es k)
         noted = noted-cleared n R ws ss ws₀ ss₀ es k admits-clearing c (a .noted);
       }
 
+  pub runs : (C : ℕ) (qs ws₀ ss₀ ws₁ ss₁ qs₁ qs₂ : List ℕ) (x : Ran) → pairs qs ≡ C → Cleared n R ws ss ws₀ ss₀ → Machines R C n ws₀ ss₀ qs ws₁ ss₁ qs₁ x → filled 0 (2 * C) 0 qs₁ ≡ qs₂
+      → Runs R n ws ss qs ws₁ ss₁ qs₂ x
+  unfolding emptied
+  runs C qs ws₀ ss₀ ws₁ ss₁ qs₁ qs₂ x p c m e = record { run = rw (p, start-is ws₀ ss₀ c) (m .run); queue = rw p (sym (m .queue) ∙ e) }
+
+  pub admits-inside : n ≤ R
+  admits-inside = admits-clearing .in-table
+
+  pub admits-room : (ws₁ : List ℕ) → length ws₁ ≡ length ws → 4 * R ≤ length ws₁
+  admits-room ws₁ e = let r = admits-clearing .room in omega arith
+
+  pub clearing-to : (ws₁ ss₁ : List ℕ) (u : ℕ) → n ≤ u → u ≤ R → length ws₁ ≡ length ws → length ss₁ ≡ length ss → Clearing n u ws₁ ss₁
+  clearing-to ws₁ ss₁ u since within e f =
+      let c = admits-clearing in
+      let r = c .room in
+      let h = c .held in
+      let k = c .few in
+      record { in-table = since; few = omega arith; room = omega arith; held = omega arith }
+
+  -- to clear again what was cleared changes nothing
+  again-table : filled (4 * n) (4 * (R - n)) 0 (start ws ss n .words) ≡ start ws ss n .words
+  unfolding start
+  again-table = rw (a .room) (filled-again (4 * n) (4 * (R - n)) 0 ws (clearing-table n R ws ss admits-clearing))
+
+  again-solutions : filled 0 R NONE (start ws ss n .solutions) ≡ start ws ss n .solutions
+  unfolding start
+  again-solutions = rw (a .room) (filled-again 0 R NONE ss (clearing-solutions n R ws ss admits-clearing))
+
   -- where the machine fails, what is outside stays, and so does what was not written
-  failing : (C : ℕ) (ws₀ ss₀ ws₁ ss₁ : List ℕ) (e : Failure) → Cleared n R ws ss ws₀ ss₀ → machine R C n (store ws₀ ss₀ n) ≡ fails ws₁ ss₁ e → Stopped R n (store ws₀ ss₀ n) ws₁ ss₁
-  failing C ws₀ ss₀ ws₁ ss₁ e c m = go n refl
+  failing : (C : ℕ) (ws₁ ss₁ : List ℕ) (e : Failure) → machine R C n (start ws ss n) ≡ fails ws₁ ss₁ e → Stopped R n (start ws ss n) ws₁ ss₁
+  failing C ws₁ ss₁ e m = go n refl
     where
-      go : (k : ℕ) → n ≡ k → Stopped R n (store ws₀ ss₀ n) ws₁ ss₁
+      go : (k : ℕ) → n ≡ k → Stopped R n (start ws ss n) ws₁ ss₁
       go zero z =
-          let m₀ : machine R C 0 (store ws₀ ss₀ 0) ≡ fails ws₁ ss₁ e = rw z at m in
-          let q : goes (store ws₀ ss₀ 0) [] ≡ fails ws₁ ss₁ e = sym (machine-none R C (store ws₀ ss₀ 0)) ∙ m₀ in
+          let m₀ : machine R C 0 (start ws ss 0) ≡ fails ws₁ ss₁ e = rw z at m in
+          let q : goes (start ws ss 0) [] ≡ fails ws₁ ss₁ e = sym (machine-none R C (start ws ss 0)) ∙ m₀ in
           let y : _≡_ {A = ℕ} 0 1 = cc in
           absurd (omega arith)
       go (suc k) z =
           let g : Grows Nobody Any (records ws) n (λ i. 0) (start ws ss n) (machine (records ws) C n (start ws ss n)) = machine-grows true ws ss n C (a .input) (omega arith) in
-          rw (a .room, start-is ws₀ ss₀ c, m) at g
-
-  pub admits-ended : (C : ℕ) (qs ws₀ ss₀ ws₁ ss₁ qs₁ : List ℕ) (x : Ran) → Cleared n R ws ss ws₀ ss₀ → Machines R C n ws₀ ss₀ qs ws₁ ss₁ qs₁ x
-      → length ws₁ ≡ length ws → length ss₁ ≡ length ss → MachineEnded n R ws₁ ss₁ x
-  admits-ended C qs ws₀ ss₀ ws₁ ss₁ qs₁ x c m e f =
-      record { clearing = clearing-on n R ws ss admits-clearing ws₁ ss₁ e f; rest = λ y z. failing C ws₀ ss₀ ws₁ ss₁ y c (rw z at (m .run)) .rest }
+          rw (a .room, m) at g
 
   -- the words and the reply left behind
-  pub left : (C : ℕ) (qs ws₀ ss₀ ws₁ ss₁ qs₁ : List ℕ) (x : Ran) (ws₂ ss₂ qs₂ : List ℕ) (r : Reply) → pairs qs ≡ C → Cleared n R ws ss ws₀ ss₀ → Machines R C n ws₀ ss₀ qs ws₁ ss₁ qs₁ x
-      → MachineReply n R ws₁ ss₁ x ws₂ ss₂ r → filled 0 (2 * C) 0 qs₁ ≡ qs₂ → LeftBehind admitted ws ss qs n ws₂ ss₂ qs₂ r
-  unfolding leaves emptied
-  left C qs ws₀ ss₀ ws₁ ss₁ qs₁ x ws₂ ss₂ qs₂ r p c m d e = go x refl
-    where
-      q : filled 0 (2 * pairs qs) 0 qs ≡ qs₂
-      q = rw p (sym (m .queue) ∙ e)
+  module _ (qs ws₁ ss₁ qs₁ : List ℕ) (x : Ran) (m : Runs R n ws ss qs ws₁ ss₁ qs₁ x) where
+    out : (y : Ran) → x ≡ y → machine (records ws) (pairs qs) n (start ws ss n) ≡ ended ws₁ ss₁ y
+    out y z = rw (a .room) (rw z at (m .run))
 
-      out : (y : Ran) → x ≡ y → machine (records ws) (pairs qs) n (start ws ss n) ≡ ended ws₁ ss₁ y
-      out y z = rw (a .room, p, start-is ws₀ ss₀ c) (rw z at (m .run))
+    pub left-solved : (u : ℕ) → x ≡ Solved u → LeftBehind admitted ws ss qs n ws₁ ss₁ qs₁ (reply 0 0 u)
+    unfolding leaves
+    left-solved u z = rw (out (Solved u) z, leaves, m .queue)
 
-      go : (y : Ran) → x ≡ y → LeftBehind admitted ws ss qs n ws₂ ss₂ qs₂ r
-      go (Solved u) z = let k = d .solved u z in rw (out (Solved u) z, leaves, q, k .0, k .1, k .2)
-      go (Failed f) z =
-          let k = d .failed f z in
-          let o = failing C ws₀ ss₀ ws₁ ss₁ f c (rw z at (m .run)) .outside in
-          let w : filled (4 * n) (4 * (R - n)) 0 ws₀ ≡ ws₀ = rw (← c .table) (filled-again (4 * n) (4 * (R - n)) 0 ws (clearing-table n R ws ss admits-clearing)) in
-          let v : filled 0 R NONE ss₀ ≡ ss₀ = rw (← c .solutions) (filled-again 0 R NONE ss (clearing-solutions n R ws ss admits-clearing)) in
-          let w₁ : ws₀ ≡ ws₂ = sym (o .table ∙ w) ∙ k .0 .table in
-          let v₁ : ss₀ ≡ ss₂ = sym (o .solutions ∙ v) ∙ k .0 .solutions in
-          rw (out (Failed f) z, leaves, q, start-is ws₀ ss₀ c, k .1, w₁, v₁)
+    pub left-failed : (u : ℕ) (y : Failure) (k : ℕ) (ws₂ ss₂ : List ℕ) → length ws₁ ≡ length ws → length ss₁ ≡ length ss → x ≡ Failed y → Unused n R ws₁ u → Cleared n u ws₁ ss₁ ws₂ ss₂ → number y ≡ k
+        → LeftBehind admitted ws ss qs n ws₂ ss₂ qs₁ (reply k 0 0)
+    unfolding leaves
+    left-failed u y k ws₂ ss₂ e f z found c q =
+        let s = failing (pairs qs) ws₁ ss₁ y (rw z at (m .run)) in
+        let d = cleared-all n R u ws₁ ss₁ (clearing-on n R ws ss admits-clearing ws₁ ss₁ e f) found ws₂ ss₂ (s .rest) c in
+        let w : start ws ss n .words ≡ ws₂ = sym (s .outside .table ∙ again-table) ∙ d .table in
+        let v : start ws ss n .solutions ≡ ss₂ = sym (s .outside .solutions ∙ again-solutions) ∙ d .solutions in
+        rw (out (Failed y) z, leaves, m .queue, q, w, v)
 
 pub solves : (ws ss qs : List ℕ) (n : ℕ) (l : Behind) → leaves (refusal (asks Solving ws n) ws ss n) ws ss qs n ≡ l → solve ws ss qs n ≡ l
 unfolding solve asks

@@ -26,7 +26,7 @@ ghost use Rattle.checks.specs.Refusing.{refusalOf};
 ghost use Rattle.solver.specs.Behind.{LeftBehind, AskedLeaves};
 ghost use Rattle.solver.specs.Clearing.{Clearing, Cleared};
 ghost use Rattle.solver.specs.Unused.{Unused};
-ghost use Rattle.solver.specs.Running.{Machines, MachineEnded, MachineReply, Admits};
+ghost use Rattle.solver.specs.Running.{Machines, Runs, Admits};
 ghost use Rattle.solver.specs.Leaving.{Inside, Checking, UnlessRefused};
 ghost use Rattle.solver.specs.Answering.{Answerable, Writes, ShowReply};
 
@@ -66,7 +66,7 @@ fn number_of(failure: Failure) -> u32
 }
 
 // The machine, with the first C pairs of the queue lent on.
-fn run_machine(
+fn lend_pairs(
     table: &mut [u32],
     solutions: &mut [u32],
     queue: &mut [u32],
@@ -92,6 +92,26 @@ fn run_machine(
     )
 }
 
+// The machine runs from a cleared table, and the queue is emptied.
+fn run_machine(
+    table: &mut [u32],
+    solutions: &mut [u32],
+    queue: &mut [u32],
+    equations: &[u16],
+    count: usize,
+    n: u32,
+    room: u32,
+) -> Ran
+    requires { ⌜ Admits room n (now table) (now solutions) (now equations) count ⌝ }
+    ensures { λ r. ⌜ Runs room n (now (table .entry)) (now (solutions .entry)) (now (queue .entry)) (now (table .exit)) (now (solutions .exit)) (now (queue .exit)) r ⌝ }
+{
+    let cap = pairs_of(queue);
+    clear(table, solutions, n, room);
+    let outcome = lend_pairs(table, solutions, queue, equations, count, n, room, cap);
+    fill(queue, 0, 2 * cap, 0);
+    outcome
+}
+
 // The first record from n on that was not written: its tag is 0.
 fn first_unused(table: &[u32], n: u32, room: u32) -> u32
     requires { ⌜ (n ≤ room) × (4 * room ≤ length (now table)) ⌝ }
@@ -107,30 +127,8 @@ fn first_unused(table: &[u32], n: u32, room: u32) -> u32
     room
 }
 
-// The reply to what the machine came to; a failure leaves table and solutions cleared: past the records written they still are.
-fn reply_to_machine(table: &mut [u32], solutions: &mut [u32], n: u32, room: u32, ran: Ran) -> Reply
-    requires { ⌜ MachineEnded n room (now table) (now solutions) ran ⌝ }
-    ensures { λ r. ⌜ MachineReply n room (now (table .entry)) (now (solutions .entry)) ran (now (table .exit)) (now (solutions .exit)) r ⌝ }
-{
-    match ran {
-        Ran::Solved(records) => Reply {
-            answer: 0,
-            place: 0,
-            used: records,
-        },
-        Ran::Failed(failure) => {
-            let used = first_unused(table, n, room);
-            clear(table, solutions, n, used);
-            Reply {
-                answer: number_of(failure),
-                place: 0,
-                used: 0,
-            }
-        }
-    }
-}
-
-// An admitted input: the machine runs from a cleared table, and the queue is emptied.
+// An admitted input: the reply to what the machine came to. A failure leaves table and solutions cleared: past the records written they
+// still are.
 fn solve_admitted(
     table: &mut [u32],
     solutions: &mut [u32],
@@ -143,12 +141,23 @@ fn solve_admitted(
     requires { ⌜ Admits room n (now table) (now solutions) (now equations) count ⌝ }
     ensures { λ r. ⌜ LeftBehind admitted (now (table .entry)) (now (solutions .entry)) (now (queue .entry)) n (now (table .exit)) (now (solutions .exit)) (now (queue .exit)) r ⌝ }
 {
-    let cap = pairs_of(queue);
-    clear(table, solutions, n, room);
-    let ran = run_machine(table, solutions, queue, equations, count, n, room, cap);
-    let reply = reply_to_machine(table, solutions, n, room, ran);
-    fill(queue, 0, 2 * cap, 0);
-    reply
+    match run_machine(table, solutions, queue, equations, count, n, room) {
+        Ran::Solved(records) => Reply {
+            answer: 0,
+            place: 0,
+            used: records,
+        },
+        Ran::Failed(failure) => {
+            let answer = number_of(failure);
+            let used = first_unused(table, n, room);
+            clear(table, solutions, n, used);
+            Reply {
+                answer,
+                place: 0,
+                used: 0,
+            }
+        }
+    }
 }
 
 // A refusal writes nothing; otherwise the machine runs with the equations that were noted.

@@ -8,12 +8,17 @@ use Rattle.solver.proofs.check_and_solve.Lts as lts
 use Rattle.checks.proofs.refuse.Reads as refuse-reads
 use Rattle.solver.proofs.solve_unless_refused.Reads as solve-unless-refused-reads
 
+unless-requires : tie.Need-solve-unless-refused-requires
+unless-requires c κs =
+    let refused = c .before .before .before .before .before .before .before .before .before .before .before .before in
+    unless-refused _ _ _ _ _ _ _ _ _ _ (refused .before .before .before .before .before .before .before .before .before .before .before .before .before .pre) (refused .refuse .ensures)
+
 pub check-and-solve-spec : {M : Type 1} → statement M
 check-and-solve-spec =
     tie.close
     (tie.spec
     (λ c κs. search needs)
-    (λ c κs. unless-refused _ _ _ _ _ _ _ _ _ _ (c .before .before .before .before .before .before .before .before .before .before .before .before .before .before .before .before .before .before .before .before .before .before .before .before .before .pre) (c .before .before .before .before .before .before .before .before .before .before .before .before .refuse .ensures))
+    unless-requires
     (λ c. search needs)
     (λ c. search needs)
     (λ c. search needs)
