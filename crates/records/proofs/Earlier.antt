@@ -31,7 +31,7 @@ module _ (ws : List ℕ) (j : ℕ) (x : Record) where
   equals-a k a e = rw (eq-eqb _ _ k, e)
 
 -- record j differs from record r
-unfoldable differs : List ℕ → ℕ → ℕ → Bool
+unfoldable pub differs : List ℕ → ℕ → ℕ → Bool
 differs ws r j = not (both (has ws j (tag ws r)) (both (eqb (fieldA ws j) (fieldA ws r)) (eqb (fieldB ws j) (fieldB ws r))))
 
 -- of one chain only the tag and a can differ
