@@ -10,7 +10,6 @@ use borrow.Author.Tests.{le-leb}
 use borrow.Rule.Slice.PartMut.{putMid, midOf, mid-len}
 use Rattle.rules.specs.declared.Failure.{Failure}
 use Rattle.rules.specs.declared.Failure.the-variants.{Clash, Escape, Occurs, QueueFull, TableFull}
-use Rattle.rules.specs.declared.Reply.{Reply}
 use Rattle.rules.specs.Words.{NONE, EQ, has}
 use Rattle.rules.specs.Lists.{those, from, below}
 use Rattle.rules.specs.Answers.{number, reply, records, pairs}
