@@ -311,7 +311,7 @@ fn reply_to_show(output: &mut [u32], room: u32, walked: Walked) -> Reply
     }
 }
 
-// The answer of an input hole after solving, in an output of which all counted records are zero.
+// The answer of an input hole after solving, in an output whose counted records are cleared first.
 pub fn write_answer(table: &[u32], solutions: &[u32], output: &mut [u32], hole: Hole) -> Reply
     requires { ⌜ Answerable (now table) (now solutions) (hole .0) ⌝ }
     ensures { λ r. ⌜ Writes (now (table .entry)) (now (solutions .entry)) (hole .0) (now (output .entry)) (now (output .exit)) r ⌝ }
