@@ -22,8 +22,8 @@ pub mod Assigning  -- steps 4 and 5
 pub mod Meeting  -- steps 2 to 5: two sides meet
 pub mod Running  -- the machine runs
 pub mod Parts  -- the parts of a term that reads
-pub mod CopyKnown  -- what is known of a term that is copied
 pub mod WalkKnown  -- what is known of a term that is walked
+pub mod CopyKnown  -- what is known of a list after its first argument was copied
 pub mod SideKnown  -- what is known of a side of a pair
 pub mod Readable  -- lists, types and holes of a sound table can be read
 pub mod Types  -- a type is one record

@@ -23,8 +23,7 @@ use Rattle.promise.specs.Copying.{copy-ends}
 use Rattle.promise.specs.State.{Holds, declared-low, holds-appends}
 use Rattle.promise.specs.Expanding.{in-scope}
 use Rattle.promise.specs.Parts.{hole-occurrence}
-use Rattle.promise.specs.CopyKnown.{CopyKnown}
-use Rattle.promise.specs.WalkKnown.{WalkKnown}
+use Rattle.promise.specs.WalkKnown.{WalkKnown, walk-solution}
 
 pub record SideKnown (R : ℕ) (s : Store) (r : ℕ) : Type 0 where
   pub constants : ℕ → Option Ty
@@ -70,17 +69,9 @@ module _ {R : ℕ} {s : Store} {r : ℕ} (k : SideKnown R s r) where
             absurd (n (sym q ∙ k .holds .leaves (fieldA (s .words) r) (declared-low (k .holds) (fieldA (s .words) r) (d .0, d .1) (d .2)) z))
         go (some u) z = (u, z, rw q at (k .holds .solves (fieldA (s .words) r) u z))
 
-    pub side-copies : CopyKnown (toVariables 0 vs) R s 0 t
-    side-copies =
-        let u = solution in
-        let w = k .solved (fieldA (s .words) r) (u .0) (u .1) in
-        record {
-          fits = k .holds .fits;
-          tree = u .0;
-          reads = u .2;
-          to = nth vs;
-          placed = All-map (place-variables vs) (u .0) (in-scope (k .constants) R (k .sig) (k .sols) occurs (w .2) (w .3));
-        }
+    -- what is known of it
+    pub side-solution : WalkKnown R s (length vs) 0 t
+    side-solution = walk-solution side-walks e t q n
 
     -- the copy is typed as the occurrence is
     renamed : {h : ℕ} {xs : List ℕ} {c : Kind} {C : List Ty} {b : ℕ} {u : Tree} → HasTy (k .constants) (k .sig) (k .context) (hol h xs) c → k .sig h ≡ some (C, b)
@@ -90,12 +81,11 @@ module _ {R : ℕ} {s : Store} {r : ℕ} (k : SideKnown R s r) where
         ren-typed (k .constants) (k .sig) _ (vars-embed v d) (rw (o .0, o .1) at w)
 
     pub side-copied : (f : ℕ) {s₁ : Store} {y : ℕ} → copy f R (toVariables 0 vs) 0 t s ≡ goes s₁ y → SideKnown R s₁ y
-    unfolding side-copies
     side-copied f {s₁} {y} g =
-        let c = side-copies in
         let u = solution in
         let w = k .solved (fieldA (s .words) r) (u .0) (u .1) in
-        let v : Wrote R (ren (c .to) (c .tree)) s s₁ y = went (rw g at (copy-ends R f (toVariables 0 vs) 0 t s (c .to) (c .tree) (c .fits) (c .reads) (c .placed))) in
+        let p = All-map (place-variables vs) (u .0) (in-scope (k .constants) R (k .sig) (k .sols) occurs (w .2) (w .3)) in
+        let v : Wrote R (ren (nth vs) (u .0)) s s₁ y = went (rw g at (copy-ends R f (toVariables 0 vs) 0 t s (nth vs) (u .0) (k .holds .fits) (u .2) p)) in
         record {
           constants = k .constants;
           sig = k .sig;

@@ -133,6 +133,11 @@ module _ {R : ℕ} {s : Store} {c d l : ℕ} (ne : l ≡ NONE → ⊥) (k : Walk
       let p = parts in
       record { sig = k .sig; sols = k .sols; holds = k .holds; solved = k .solved; tree = p .0; reads = p .2; inside = p .4 .0; scoped = p .5 .0 }
 
+  pub walk-second : WalkAllKnown R s c d (fieldB (s .words) l)
+  walk-second =
+      let p = parts in
+      record { sig = k .sig; sols = k .sols; holds = k .holds; solved = k .solved; tree = p .1; applied = p .3; inside = p .4 .1; scoped = p .5 .1 }
+
   -- after the walk of the first argument
   pub walk-rest : (f u : ℕ) (m : Map) {s₁ : Store} {y : ℕ} → walk f R u m d (fieldA (s .words) l) s ≡ goes s₁ y → WalkAllKnown R s₁ c d (fieldB (s .words) l)
   walk-rest f u m {s₁} {y} e =

@@ -1,4 +1,5 @@
 pub mod Said  -- what a step's answers say, over the rules
+pub mod Expand  -- step 1
 pub mod Meets  -- which of the steps 2 to 5 two sides ask for
 pub mod Arguments  -- step 3
 pub mod Same  -- step 4

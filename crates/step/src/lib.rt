@@ -1,5 +1,4 @@
 // A step of the machine for the pair taken: step 1 for the left side, then for the right side, then steps 2 to 5.
-use copy::expand;
 use narrow::Narrowed;
 use narrow::narrow;
 use places::Map;
@@ -10,17 +9,22 @@ use queue::Ring;
 use queue::join_pairs;
 use rules::Failure;
 use store::Walked;
+use store::solution_of;
 use table::HA;
 use table::Hole;
 use table::LA;
+use table::NONE;
 use table::Record;
 use table::read;
 use walk::assign;
+use walk::copy_solution;
+ghost use mathlib.Core.Path.{_≡_};
 ghost use Rattle.rules.specs.Machine.{meet as meetOf, step as stepOf};
 ghost use Rattle.narrow.specs.Narrowing.{rooted};
 ghost use Rattle.queue.specs.Ring.{view};
 ghost use Rattle.queue.specs.Arguments.{Joining};
 ghost use Rattle.step.specs.Said.{Steps, ThenSteps, ThenFinishes};
+ghost use Rattle.step.specs.Expand.{headSolution, Heading, Expanding, Expands};
 ghost use Rattle.step.specs.Meets.{TwoLambdas, SameHeads, Terms, MeetsAs};
 ghost use Rattle.step.specs.Arguments.{Argues};
 ghost use Rattle.step.specs.Same.{Occurrences, Agreed, SameReady, SameDone};
@@ -41,6 +45,50 @@ enum Meeting {
     SameHole,
     Solve { side: u32, other: u32 },
     Clash,
+}
+
+// The record of the solution of a side's head, or NONE if the head is no solved hole.
+fn head_solution(table: &[u32], solutions: &[u32], at: u32) -> u32
+    requires { ⌜ Heading (now table) (now solutions) at ⌝ }
+    ensures { λ r. ⌜ headSolution (now (table .entry)) (now (solutions .entry)) at ≡ r ⌝ }
+{
+    let rec = read(table, at);
+    if rec.tag == HA {
+        return solution_of(solutions, Hole(rec.a));
+    }
+    NONE
+}
+
+// Step 1: while the side's head is a solved hole, the side is replaced by a copy of the solution.
+pub fn expand(
+    table: &mut [u32],
+    solutions: &mut [u32],
+    n: u32,
+    used: u32,
+    room: u32,
+    at: u32,
+) -> Walked
+    requires { ⌜ Expanding room n (now table) (now solutions) used at ⌝ }
+    ensures { λ r. ⌜ Expands room n (now (table .entry)) (now (solutions .entry)) used at (now (table .exit)) (now (solutions .exit)) r ⌝ }
+{
+    let mut side = at;
+    let mut taken = used;
+    loop {
+        let solution = head_solution(table, solutions, side);
+        if solution == NONE {
+            return Walked::Root {
+                root: side,
+                used: taken,
+            };
+        }
+        match copy_solution(table, solutions, n, taken, room, side, solution) {
+            Walked::Failed(e) => return Walked::Failed(e),
+            Walked::Root { root, used: then } => {
+                side = root;
+                taken = then;
+            }
+        }
+    }
 }
 
 // Two lambdas.

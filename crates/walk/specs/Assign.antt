@@ -12,7 +12,7 @@ use Rattle.table.specs.declared.Record.{Record}
 use Rattle.table.specs.Reading.{IsRecord}
 use Rattle.places.specs.declared.Map.{Map}
 use Rattle.rules.specs.Lists.{enough}
-use Rattle.rules.specs.Words.{tag, fieldA, arguments, variables}
+use Rattle.rules.specs.Words.{NONE, tag, fieldA, arguments, variables}
 use Rattle.rules.specs.Store.{Store, Out, goes, settle, _>>=_}
 use Rattle.rules.specs.Map.{toPositions}
 use Rattle.rules.specs.Walk.{walk, assign}
@@ -24,8 +24,8 @@ use Rattle.places.specs.Maps.{mapOf}
 use Rattle.places.specs.Lists.{Counts}
 use Rattle.places.specs.Arguments.{Arguments, arguments-above}
 use Rattle.rewrite.specs.Parts.{term-read, counts-at, hole-held}
-use Rattle.walk.specs.Walks.{WalksT}
-use Rattle.walk.specs.Ready.{ReadyT}
+use Rattle.walk.specs.Walks.{WalksTerm, walks}
+use Rattle.walk.specs.Ready.{solving, ReadyTerm}
 
 -- what step 5 asks: an occurrence on the left, a term on the right
 pub record Assigning (R n : ℕ) (ws ss : List ℕ) (used l r : ℕ) : Type 0 where
@@ -69,7 +69,17 @@ module _ {R n : ℕ} {ws ss : List ℕ} {used l r : ℕ} where
       unfolding variables arguments
       placed = rw (← e .b-is) (arguments-above ws (w .b) m p)
 
-      pub assign-walks : ReadyT R n (w .a) m ws ss used 0 0 r
+      -- it is a hole
+      some : w .a ≡ NONE → ⊥
+      some z =
+          let o = h .fine .good l (h .left .below) .occ (h .occ) .below in
+          let lt = h .left .below in
+          let fe = h .fine .few in
+          let wi = h .fine .within in
+          let a = e .a-is in
+          omega arith
+
+      pub assign-walks : ReadyTerm R n (w .a) m ws ss used 0 0 r
       assign-walks =
           let nine = h .occ in
           let rule = h .fine .good l (h .left .below) in
@@ -82,18 +92,18 @@ module _ {R n : ℕ} {ws ss : List ℕ} {used l r : ℕ} where
           record {
             home = h .home;
             is = h .right;
-            on = record { fine = h .fine; hole = omega arith; whole = p .whole; top = 16; low = rw placed (start-low ws l (rule .few (omega arith) (omega arith))); fits = omega arith };
+            on = record { fine = h .fine; whole = p .whole; top = 16; low = rw placed (start-low ws l (rule .few (omega arith) (omega arith))); led = solving some (omega arith) (omega arith) };
             scope = h .scope;
             within = λ z. absurd (z refl);
             known = h .known;
           }
 
-      pub assigned : (ws₁ ss₁ : List ℕ) (x : Walked) (ss₂ : List ℕ) (y : Walked) → WalksT R n (w .a) m ws ss used 0 0 r ws₁ ss₁ x → Records (w .a) ss₁ x ss₂ y
+      pub assigned : (ws₁ ss₁ : List ℕ) (x : Walked) (ss₂ : List ℕ) (y : Walked) → WalksTerm R n (w .a) m ws ss used 0 0 r ws₁ ss₁ x → Records (w .a) ss₁ x ss₂ y
           → Does² n (assign R l r) ws ss used ws₁ ss₂ y
       unfolding assign
       assigned ws₁ ss₁ x ss₂ y g q =
           let fe = h .fine .few in
           let rb = h .right .below in
           let wi = h .fine .within in
-          let g₁ : walk enough R (fieldA ws l) (toPositions 0 (variables ws l)) 0 r (store ws ss used) ≡ shown ws₁ ss₁ x = rw (← e .a-is, ← placed) (g .run enough (omega arith)) in
+          let g₁ : walk enough R (fieldA ws l) (toPositions 0 (variables ws l)) 0 r (store ws ss used) ≡ shown ws₁ ss₁ x = rw (← e .a-is, ← placed, ← walks R (w .a) enough some) (g .run enough (omega arith)) in
           record { run = rw g₁ (rw (← e .a-is) (q .run ws₁)); grown = rw (q .same) (g .grown) }

@@ -1,10 +1,10 @@
--- What the walk of a term that is no lambda asks and says.
+-- What the walk of a rigid head asks and says.
 use Prim.Native.Nat.{ℕ, suc, _+_, _*_, _<_, _≤_}
 use mathlib.Core.Path.{_≡_, sym, _∙_}
 use mathlib.Core.List.{List}
+use mathlib.Core.Bool.{Bool, true}
 use native.Mathlib.Omega.{arith}
 use lib.ListN.{length}
-use lib.Dec.{eqb}
 use Rattle.rules.specs.declared.Found.{Found}
 use Rattle.rules.specs.declared.Found.the-variants.{At, Nowhere}
 use Rattle.rules.specs.declared.Failure.the-variants.{Escape}
@@ -18,55 +18,49 @@ use Rattle.rules.specs.Store.{push}
 use Rattle.laws.specs.Lists.{size}
 use Rattle.invariants.specs.Rise.{reach}
 use Rattle.store.specs.Said.{Does, Then, over}
-use Rattle.places.specs.Looking.{Looks, Within}
 use Rattle.rewrite.specs.Levels.{Headed}
-use Rattle.walk.specs.Head.{headOf}
-use Rattle.walk.specs.Walks.{mapAt, WalksT, WalksL, walk-leaf, walk-escape}
-use Rattle.walk.specs.Ready.{ReadyT, ReadyB, ReadyL, ReadyH, to-read, look, in-scope, to-hole, headed, args-size, to-args, walked-rigid}
+use Rattle.walk.specs.Head.{headOf, head-at, isLeaf, leaf-parts}
+use Rattle.walk.specs.Walks.{mapAt, WalksTerm, WalksList, walk-leaf, walk-escape}
+use Rattle.walk.specs.Ready.{ReadyTerm, ReadyBody, ReadyArgs, args-size, headed, to-args, walked-rigid}
 
 -- a rigid head, written as v
 pub record Rigid (R n u : ℕ) (m : Map) (ws ss : List ℕ) (used F d r : ℕ) (w : Record) (v : ℕ) : Type 0 where
-  pub on : ReadyT R n u m ws ss used F d r
+  pub on : ReadyTerm R n u m ws ss used F d r
   pub is : IsRecord ws r w
   pub head : Headed (mapAt F m) d w v
 
 module _ {R n u : ℕ} {m : Map} {ws ss : List ℕ} {used F d r : ℕ} where
-  module _ (h : ReadyB R n u m ws ss used F d r) where
-    pub body-read : 4 * r + 3 < length ws
-    body-read = to-read (h .on)
+  pub term-room : (ws₁ : List ℕ) → length ws₁ ≡ length ws → ReadyTerm R n u m ws ss used F d r → 4 * R ≤ length ws₁
+  term-room ws₁ e h = let o = h .on .fine .room in omega arith
 
-    pub body-look : Looks (eqb F 0) m d
-    body-look = look (h .on)
+  pub term-since : ReadyTerm R n u m ws ss used F d r → n ≤ used
+  term-since h = h .on .fine .since
 
-    pub body-room : (ws₁ : List ℕ) → length ws₁ ≡ length ws → 4 * R ≤ length ws₁
-    body-room ws₁ e = let o = h .on .on .fine .room in omega arith
+  module _ (w : Record) (e : IsRecord ws r w) where
+    pub term-escapes : (s : Found) → headOf (mapAt F m) d w ≡ s → s ≡ Nowhere → WalksTerm R n u m ws ss used F d r ws ss (Failed Escape)
+    term-escapes s p q = walk-escape R n u m ws ss used F d r w e s p q
 
-    pub body-since : n ≤ used
-    body-since = h .on .on .fine .since
+    -- a rigid head without arguments
+    pub leaf-walked : (b : Bool) (s : Found) (v : ℕ) (ws₁ : List ℕ) (x : Walked) → isLeaf w ≡ b → b ≡ true → headOf (mapAt F m) d w ≡ s → s ≡ At v → Does n (push R (w .tag) v NONE) ws used ws₁ x
+        → WalksTerm R n u m ws ss used F d r ws₁ ss x
+    leaf-walked b s v ws₁ x l y p q g = let k = leaf-parts w (l ∙ y) in walk-leaf R n u m ws ss used F d r w e v ws₁ x (head-at _ _ _ s p v (k .1) (k .2) q) (k .0) g
 
-    module _ (w : Record) (e : IsRecord ws r w) where
-      pub body-hole : w .tag ≡ 9 → ReadyH R n u m ws ss used F d r
-      body-hole t = to-hole w e t (h .on)
-
-      pub body-within : w .tag ≡ 8 → Within (eqb F 0) m d (w .a)
-      body-within = in-scope w e (h .on)
-
-      pub body-escapes : (s : Found) → headOf (mapAt F m) d w ≡ s → s ≡ Nowhere → WalksT R n u m ws ss used F d r ws ss (Failed Escape)
-      body-escapes s p q = walk-escape R n u m ws ss used F d r w e s p q
-
-      pub body-rigid : (s : Found) (v : ℕ) → (w .tag ≡ 9 → ⊥) → headOf (mapAt F m) d w ≡ s → s ≡ At v → Rigid R n u m ws ss used F d r w v
-      body-rigid s v ne p q = record { on = h .on; is = e; head = headed w s v e (λ t. h .plain (sym (e .tag-is) ∙ t)) ne (h .on) p q }
+    pub body-rigid : ReadyBody R n u m ws ss used F d r → (s : Found) (v : ℕ) → (w .tag ≡ 9 → ⊥) → headOf (mapAt F m) d w ≡ s → s ≡ At v → Rigid R n u m ws ss used F d r w v
+    body-rigid h s v ne p q = record { on = h .on; is = e; head = headed w s v e (λ t. h .plain (sym (e .tag-is) ∙ t)) ne (h .on) p q }
 
   module _ {w : Record} {v : ℕ} (h : Rigid R n u m ws ss used F d r w v) where
-    pub rigid-leaf : (ws₁ : List ℕ) (x : Walked) → w .b ≡ NONE → Does n (push R (w .tag) v NONE) ws used ws₁ x → WalksT R n u m ws ss used F d r ws₁ ss x
+    pub rigid-leaf : (ws₁ : List ℕ) (x : Walked) → w .b ≡ NONE → Does n (push R (w .tag) v NONE) ws used ws₁ x → WalksTerm R n u m ws ss used F d r ws₁ ss x
     rigid-leaf ws₁ x z g = walk-leaf R n u m ws ss used F d r w (h .is) v ws₁ x (h .head) z g
 
     -- its arguments
-    pub rigid-args : ReadyL R n u m ws ss used F d (w .b)
-    rigid-args = to-args w v (h .is) (h .head) (h .on)
+    pub rigid-args : (w .b ≡ NONE → ⊥) → ReadyArgs R n u m ws ss used F d (w .b)
+    rigid-args ne = record { list = to-args w v (h .is) (h .head) (h .on); some = ne }
 
-    pub fall-args : (t : ℕ) → 4 * reach R F (suc r) ≡ t → 4 * reach R F (size (w .b)) < t
+    pub fall-args : (t : ℕ) → 3 * reach R F (suc r) ≡ t → 3 * reach R F (size (w .b)) < t
     fall-args t z = let s = args-size w v (h .is) (h .head) (h .on) in omega arith
 
-    pub rigid-ends : (ws₁ ss₁ : List ℕ) (x : Walked) (ws₂ : List ℕ) (y : Walked) → WalksL R n u m ws ss used F d (w .b) ws₁ ss₁ x → Then n (over R (w .tag) v) ws₁ x ws₂ y → WalksT R n u m ws ss used F d r ws₂ ss₁ y
+    pub rigid-room : (ws₁ : List ℕ) → length ws₁ ≡ length ws → 4 * R ≤ length ws₁
+    rigid-room ws₁ e = term-room ws₁ e (h .on)
+
+    pub rigid-ends : (ws₁ ss₁ : List ℕ) (x : Walked) (ws₂ : List ℕ) (y : Walked) → WalksList R n u m ws ss used F d (w .b) ws₁ ss₁ x → Then n (over R (w .tag) v) ws₁ x ws₂ y → WalksTerm R n u m ws ss used F d r ws₂ ss₁ y
     rigid-ends ws₁ ss₁ x ws₂ y l g = walked-rigid w v (h .is) (h .head) (h .on) ws₁ ss₁ x ws₂ y l g

@@ -3,7 +3,6 @@ use Prim.Native.Nat.{ℕ, suc, _+_, _*_, _<_, _≤_}
 use mathlib.Core.Path.{_≡_, refl, sym, ap, _∙_}
 use mathlib.Core.List.{List, [], _∷_, _++_}
 use native.Mathlib.Omega.{arith}
-use native.Mathlib.Nat.{le-refl}
 use lib.ListN.{length, set, take, length-set}
 use lib.Seq.{take-suc-set}
 use Rattle.rules.specs.declared.Failure.{Failure}
@@ -15,20 +14,16 @@ use Rattle.places.specs.declared.Map.{Map}
 use Rattle.rules.specs.Words.{NONE, elements}
 use Rattle.rules.specs.Store.{goes, pushCells}
 use Rattle.rules.specs.Rewrite.{writeAll}
-use Rattle.rules.specs.Walk.{walk}
-use Rattle.laws.specs.Lists.{size, elements-none, elements-kept}
-use Rattle.invariants.specs.Floor.{Sub, Args, Grown, Rooted}
-use Rattle.invariants.specs.Grow.{args-kept}
+use Rattle.laws.specs.Lists.{size, elements-none}
 use Rattle.invariants.specs.Rise.{reach}
-use Rattle.invariants.specs.Keep.{kept}
-use Rattle.promise.specs.WalkKnown.{walk-rest}
 use Rattle.store.specs.Said.{store, shown, since-failed, Does}
 use Rattle.narrow.specs.Cells.{Celling}
 use Rattle.narrow.specs.Each.{writeRest, writes-all, rest-end, rest-stops, rest-goes}
 use Rattle.rewrite.specs.Parts.{room-at}
-use Rattle.walk.specs.Walks.{mapAt, WalksT, WalksL}
-use Rattle.walk.specs.Ready.{ReadyT, ReadyL}
-use Rattle.walk.specs.First.{first-read, first-parts, first-lower, first-is, first-ready}
+use Rattle.walk.specs.Walks.{mapAt, writer, WalksTerm, WalksList}
+use Rattle.walk.specs.Ready.{ReadyTerm, ReadyList}
+use Rattle.walk.specs.After.{after-same, after-ready}
+use Rattle.walk.specs.First.{first-read, first-lower, first-is, first-ready}
 
 -- after k arguments: what they were written as, and what is left
 pub record Turn (R n u : ℕ) (m : Map) (ws₀ ss₀ : List ℕ) (used₀ F d l₀ : ℕ) (ws ss noted : List ℕ) (k used l : ℕ) : Type 0 where
@@ -37,12 +32,12 @@ pub record Turn (R n u : ℕ) (m : Map) (ws₀ ss₀ : List ℕ) (used₀ F d l�
   pub array : length noted ≡ 16
   pub few : k + length (elements ws l) ≤ 16
   pub less : size l ≤ size l₀
-  pub ready : ReadyL R n u m ws ss used F d l
-  pub leads : (f : ℕ) → reach R F (size l₀) ≤ f → writeAll (walk f R u) R (mapAt F m) d (elements ws₀ l₀) (store ws₀ ss₀ used₀)
-      ≡ writeRest (walk f R u) R (mapAt F m) d (take k noted) (elements ws l) (store ws ss used)
+  pub ready : ReadyList R n u m ws ss used F d l
+  pub leads : (f : ℕ) → reach R F (size l₀) ≤ f → writeAll (writer R u f) R (mapAt F m) d (elements ws₀ l₀) (store ws₀ ss₀ used₀)
+      ≡ writeRest (writer R u f) R (mapAt F m) d (take k noted) (elements ws l) (store ws ss used)
 
 module _ (R n u : ℕ) (m : Map) (ws₀ ss₀ : List ℕ) (used₀ F d l₀ : ℕ) where
-  pub turn-first : (noted : List ℕ) → length noted ≡ 16 → ReadyL R n u m ws₀ ss₀ used₀ F d l₀ → Turn R n u m ws₀ ss₀ used₀ F d l₀ ws₀ ss₀ noted 0 used₀ l₀
+  pub turn-first : (noted : List ℕ) → length noted ≡ 16 → ReadyList R n u m ws₀ ss₀ used₀ F d l₀ → Turn R n u m ws₀ ss₀ used₀ F d l₀ ws₀ ss₀ noted 0 used₀ l₀
   turn-first noted z h =
       let f = h .few in
       record {
@@ -52,7 +47,7 @@ module _ (R n u : ℕ) (m : Map) (ws₀ ss₀ : List ℕ) (used₀ F d l₀ : �
         few = omega arith;
         less = omega arith;
         ready = h;
-        leads = λ f hf. writes-all (walk f R u) R (mapAt F m) d (elements ws₀ l₀) (store ws₀ ss₀ used₀);
+        leads = λ f hf. writes-all (writer R u f) R (mapAt F m) d (elements ws₀ l₀) (store ws₀ ss₀ used₀);
       }
 
   module _ (ws ss noted : List ℕ) (k used l : ℕ) (h : Turn R n u m ws₀ ss₀ used₀ F d l₀ ws ss noted k used l) where
@@ -72,10 +67,10 @@ module _ (R n u : ℕ) (m : Map) (ws₀ ss₀ : List ℕ) (used₀ F d l₀ : �
     pub turn-cells : Celling ws n used R noted k
     turn-cells = let f = h .few in let z = h .array in record { room = h .ready .on .fine .room; since = h .ready .on .fine .since; few = omega arith }
 
-    pub turn-ends : (ws₁ : List ℕ) (x : Walked) → l ≡ NONE → Does n (pushCells R (take k noted)) ws used ws₁ x → WalksL R n u m ws₀ ss₀ used₀ F d l₀ ws₁ ss x
+    pub turn-ends : (ws₁ : List ℕ) (x : Walked) → l ≡ NONE → Does n (pushCells R (take k noted)) ws used ws₁ x → WalksList R n u m ws₀ ss₀ used₀ F d l₀ ws₁ ss x
     turn-ends ws₁ x e p =
         record {
-          run = λ f hf. h .leads f hf ∙ rw (elements-none ws l e) (rest-end (walk f R u) R (mapAt F m) d (take k noted) (store ws ss used) ∙ p .run ss);
+          run = λ f hf. h .leads f hf ∙ rw (elements-none ws l e) (rest-end (writer R u f) R (mapAt F m) d (take k noted) (store ws ss used) ∙ p .run ss);
           grown = p .grown;
         }
 
@@ -85,9 +80,6 @@ module _ (R n u : ℕ) (m : Map) (ws₀ ss₀ : List ℕ) (used₀ F d l₀ : �
       turn-read = first-read (h .ready) ne
 
       module _ (w : Record) (e : IsRecord ws l w) where
-        parts : Sub ws (h .ready .home) F used (w .a) × Args ws (h .ready .home) F used (w .b)
-        parts = first-parts (h .ready) ne w e
-
         lower : (suc (w .a) < size l) × (size (w .b) < size l)
         lower = first-lower (h .ready) ne w e
 
@@ -100,57 +92,28 @@ module _ (R n u : ℕ) (m : Map) (ws₀ ss₀ : List ℕ) (used₀ F d l₀ : �
         pub room-left : k < 16
         room-left = let f = few in omega arith
 
-        pub turn-falls : (t : ℕ) → 4 * reach R F (size l₀) ≡ t → 4 * reach R F (suc (w .a)) + 3 < t
+        pub turn-falls : (t : ℕ) → 3 * reach R F (size l₀) ≡ t → 3 * reach R F (suc (w .a)) + 2 < t
         turn-falls t z = let a = lower .0 in let b = h .less in omega arith
 
         pub turn-less : size (w .b) < size l
         turn-less = lower .1
 
-        pub turn-head : ReadyT R n u m ws ss used F d (w .a)
+        pub turn-head : ReadyTerm R n u m ws ss used F d (w .a)
         turn-head = first-ready (h .ready) ne w e
 
-        module _ (ws₁ ss₁ : List ℕ) (x : Walked) (p : WalksT R n u m ws ss used F d (w .a) ws₁ ss₁ x) where
-          pub turn-stops : (e₁ : Failure) → x ≡ Failed e₁ → WalksL R n u m ws₀ ss₀ used₀ F d l₀ ws₁ ss₁ (Failed e₁)
+        module _ (ws₁ ss₁ : List ℕ) (x : Walked) (p : WalksTerm R n u m ws ss used F d (w .a) ws₁ ss₁ x) where
+          pub turn-stops : (e₁ : Failure) → x ≡ Failed e₁ → WalksList R n u m ws₀ ss₀ used₀ F d l₀ ws₁ ss₁ (Failed e₁)
           turn-stops e₁ q =
               let a = lower .0 in
               let b = h .less in
               record {
-                run = λ f hf. h .leads f hf ∙ rw is-cell (rest-stops (walk f R u) R (mapAt F m) d (take k noted) (w .a) (elements ws (w .b)) (store ws ss used) ws₁ ss₁ e₁ (p .run f (omega arith) ∙ ap (shown ws₁ ss₁) q));
+                run = λ f hf. h .leads f hf ∙ rw is-cell (rest-stops (writer R u f) R (mapAt F m) d (take k noted) (w .a) (elements ws (w .b)) (store ws ss used) ws₁ ss₁ e₁ (p .run f (omega arith) ∙ ap (shown ws₁ ss₁) q));
                 grown = since-failed _ _;
               }
 
           module _ (y u₁ : ℕ) (q : x ≡ Root y u₁) where
-            gives : walk (suc (reach R F (suc (w .a)))) R u (mapAt F m) d (w .a) (store ws ss used) ≡ goes (store ws₁ ss₁ u₁) y
+            gives : writer R u (suc (reach R F (suc (w .a)))) (mapAt F m) d (w .a) (store ws ss used) ≡ goes (store ws₁ ss₁ u₁) y
             gives = p .run (suc (reach R F (suc (w .a)))) (omega arith) ∙ ap (shown ws₁ ss₁) q
-
-            grown : Grown (λ v. v ≡ u) (Rooted used) R n (h .ready .home) (store ws ss used) (store ws₁ ss₁ u₁) y
-            grown =
-                let r = h .ready in
-                let fi = r .on .fits in
-                let lo = lower .0 in
-                rw gives at (kept R n u used F (r .on .top) (suc (reach R F (suc (w .a)))) (mapAt F m) d (w .a) (store ws ss used) (r .home) (r .on .fine) (le-refl _) (r .on .hole) (parts .0) (r .on .low) (omega arith) (omega arith))
-
-            el : elements ws₁ (w .b) ≡ elements ws (w .b)
-            el = let r = h .ready in elements-kept ws ws₁ used (w .b) (grown .ext .kept) (λ c lt five. r .on .fine .good c lt .cell five) (parts .1 .here)
-
-            rest : ReadyL R n u m ws₁ ss₁ u₁ F d (w .b)
-            rest =
-                let r = h .ready in
-                let g = grown in
-                let gr = g .ext .grown in
-                let ho = r .on .hole in
-                let f = r .on .fits in
-                let a = lower .1 in
-                let fe : (k + 1) + length (elements ws₁ (w .b)) ≤ 16 = rw el few in
-                record {
-                  home = g .home₁;
-                  is = args-kept _ _ _ _ _ _ _ _ _ (r .on .fine) (g .ext) (parts .1);
-                  few = omega arith;
-                  on = record { fine = g .fine; hole = omega arith; whole = r .on .whole; top = r .on .top; low = r .on .low; fits = omega arith };
-                  scope = r .scope;
-                  within = r .within;
-                  known = rw (e .b-is) (walk-rest ne (r .known) _ u (mapAt F m) (rw (e .a-is) at gives));
-                }
 
             pub turn-next : length ws₁ ≡ length ws → length ss₁ ≡ length ss → Turn R n u m ws₀ ss₀ used₀ F d l₀ ws₁ ss₁ (set noted k y) (k + 1) u₁ (w .b)
             turn-next lw ls =
@@ -159,6 +122,7 @@ module _ (R n u : ℕ) (m : Map) (ws₀ ss₀ : List ℕ) (used₀ F d l₀ : �
                 let c = h .less in
                 let nt = h .array in
                 let rl = room-left in
+                let el = after-same (h .ready) ne w e ws₁ ss₁ u₁ y gives in
                 let ke : k + 1 ≡ suc k = omega arith in
                 let tk : take (k + 1) (set noted k y) ≡ take k noted ++ (y ∷ []) = rw ke (take-suc-set noted k y (omega arith)) in
                 record {
@@ -167,7 +131,7 @@ module _ (R n u : ℕ) (m : Map) (ws₀ ss₀ : List ℕ) (used₀ F d l₀ : �
                   array = simp length-set nt;
                   few = rw el few;
                   less = omega arith;
-                  ready = rest;
+                  ready = after-ready (h .ready) ne w e ws₁ ss₁ u₁ y gives (k + 1) few;
                   leads = λ f hf. h .leads f hf ∙ rw (is-cell, tk, el)
-                      (rest-goes (walk f R u) R (mapAt F m) d (take k noted) (w .a) (elements ws (w .b)) (store ws ss used) (store ws₁ ss₁ u₁) y (p .run f (omega arith) ∙ ap (shown ws₁ ss₁) q));
+                      (rest-goes (writer R u f) R (mapAt F m) d (take k noted) (w .a) (elements ws (w .b)) (store ws ss used) (store ws₁ ss₁ u₁) y (p .run f (omega arith) ∙ ap (shown ws₁ ss₁) q));
                 }

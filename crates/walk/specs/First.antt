@@ -1,20 +1,24 @@
--- The first argument of a list: what its walk asks, and a list that has no other.
-use Prim.Native.Nat.{ℕ, suc, _+_, _*_, _<_}
+-- The first argument of a list: what its walk asks, and the walk of a list that has no other.
+use Prim.Native.Nat.{ℕ, suc, _+_, _*_, _<_, _≤_}
 use mathlib.Core.Path.{_≡_}
 use mathlib.Core.List.{List, [], _∷_}
 use native.Mathlib.Omega.{arith}
 use lib.ListN.{length}
+use Rattle.store.specs.declared.Walked.{Walked}
 use Rattle.table.specs.declared.Record.{Record}
 use Rattle.table.specs.Reading.{IsRecord}
 use Rattle.places.specs.declared.Map.{Map}
 use Rattle.rules.specs.Words.{NONE, elements}
 use Rattle.laws.specs.Lists.{size, elements-none}
 use Rattle.invariants.specs.Floor.{Sub, Args}
+use Rattle.invariants.specs.Rise.{reach}
 use Rattle.promise.specs.WalkKnown.{walk-first}
+use Rattle.store.specs.Said.{Then, under}
 use Rattle.rewrite.specs.Parts.{cell-read, lower-at, list-is, both-at}
-use Rattle.walk.specs.Ready.{ReadyT, ReadyL, on-part}
+use Rattle.walk.specs.Walks.{WalksTerm, WalksList, walk-only}
+use Rattle.walk.specs.Ready.{ReadyTerm, ReadyList, ReadyArgs, on-part}
 
-module _ {R n u : ℕ} {m : Map} {ws ss : List ℕ} {used F d l : ℕ} (h : ReadyL R n u m ws ss used F d l) (ne : l ≡ NONE → ⊥) where
+module _ {R n u : ℕ} {m : Map} {ws ss : List ℕ} {used F d l : ℕ} (h : ReadyList R n u m ws ss used F d l) (ne : l ≡ NONE → ⊥) where
   pub first-read : 4 * l + 3 < length ws
   first-read = cell-read R n (h .home) ws ss used F l (h .on .fine) (h .is) ne
 
@@ -28,11 +32,31 @@ module _ {R n u : ℕ} {m : Map} {ws ss : List ℕ} {used F d l : ℕ} (h : Read
     pub first-is : elements ws l ≡ w .a ∷ elements ws (w .b)
     first-is = list-is R n (h .home) ws ss used F l (h .on .fine) (h .is) ne w e
 
-    pub first-ready : ReadyT R n u m ws ss used F d (w .a)
+    pub first-ready : ReadyTerm R n u m ws ss used F d (w .a)
     first-ready =
         let a = first-lower .0 in
         record { home = h .home; is = first-parts .0; on = on-part d (suc (w .a)) (h .on) (omega arith); scope = h .scope; within = h .within; known = rw (e .a-is) (walk-first ne (h .known)) }
 
-    -- there is no other
-    pub first-only : w .b ≡ NONE → elements ws l ≡ w .a ∷ []
-    first-only z = rw (first-is, elements-none ws (w .b) z)
+-- an only argument
+module _ {R n u : ℕ} {m : Map} {ws ss : List ℕ} {used F d l : ℕ} (h : ReadyArgs R n u m ws ss used F d l) where
+  pub args-list : ReadyList R n u m ws ss used F d l
+  args-list = h .list
+
+  pub args-read : 4 * l + 3 < length ws
+  args-read = first-read (h .list) (h .some)
+
+  pub args-room : (ws₁ : List ℕ) → length ws₁ ≡ length ws → 4 * R ≤ length ws₁
+  args-room ws₁ e = let o = h .list .on .fine .room in omega arith
+
+  module _ (w : Record) (e : IsRecord ws l w) where
+    pub only-ready : ReadyTerm R n u m ws ss used F d (w .a)
+    only-ready = first-ready (h .list) (h .some) w e
+
+    pub fall-only : (t : ℕ) → 3 * reach R F (size l) ≡ t → 3 * reach R F (suc (w .a)) + 1 < t
+    fall-only t z = let a = first-lower (h .list) (h .some) w e .0 in omega arith
+
+    pub only-walked : (ws₁ ss₁ : List ℕ) (x : Walked) (ws₂ : List ℕ) (y : Walked) → w .b ≡ NONE → WalksTerm R n u m ws ss used F d (w .a) ws₁ ss₁ x → Then n (under R 5 NONE) ws₁ x ws₂ y
+        → WalksList R n u m ws ss used F d l ws₂ ss₁ y
+    only-walked ws₁ ss₁ x ws₂ y z p q =
+        let is : elements ws l ≡ w .a ∷ [] = rw (first-is (h .list) (h .some) w e, elements-none ws (w .b) z) in
+        walk-only R n u m ws ss used F d (w .a) l ws₁ ss₁ x ws₂ y is (first-lower (h .list) (h .some) w e .0) p q

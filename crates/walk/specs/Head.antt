@@ -1,7 +1,7 @@
--- What a rigid head is written as: a constant as it is, a variable as its place.
+-- What a rigid head is written as: a constant as it is, a variable as its place; and whether it has no arguments.
 use Prim.Native.Nat.{ℕ, _≤_}
 use mathlib.Core.Path.{_≡_, refl, sym, _∙_}
-use mathlib.Core.Bool.{true, false}
+use mathlib.Core.Bool.{Bool, true, false}
 use native.Mathlib.Omega.{arith}
 use native.Mathlib.Decide.{ℕ-discrete}
 use lib.Dec.{eqb}
@@ -12,7 +12,7 @@ use Rattle.table.specs.declared.Record.{Record}
 use Rattle.table.specs.declared.Variable.{Variable}
 use Rattle.places.specs.declared.Place.{Place}
 use Rattle.places.specs.declared.Place.the-variants.{At as To, Nowhere as Lost}
-use Rattle.rules.specs.Words.{VA}
+use Rattle.rules.specs.Words.{NONE, CA, VA}
 use Rattle.rules.specs.Map.{Map, placeOf}
 use Rattle.places.specs.Looking.{foundAt}
 use Rattle.rewrite.specs.Levels.{Headed, of-constant, of-variable}
@@ -54,3 +54,29 @@ module _ (m : Map) (d : ℕ) (w : Record) where
   pub head-plain : (v : ℕ) → Headed m d w v → w .tag ≡ 6 → ⊥
   head-plain v (of-constant t _) q = absurd (omega arith)
   head-plain v (of-variable t _) q = absurd (omega arith)
+
+-- a rigid head without arguments
+unfoldable pub isLeaf : Record → Bool
+isLeaf w = elim (eqb (w .b) NONE) [ true ↦ elim (eqb (w .tag) CA) [ true ↦ true | false ↦ eqb (w .tag) VA ] | false ↦ false ]
+
+module _ (w : Record) where
+  pub leaf-applied : (w .b ≡ NONE → ⊥) → isLeaf w ≡ false
+  unfolding isLeaf
+  leaf-applied n = rw (ne-eqb _ _ n, isLeaf)
+
+  pub leaf-constant : w .b ≡ NONE → w .tag ≡ 7 → isLeaf w ≡ true
+  unfolding isLeaf
+  leaf-constant z t = rw (eq-eqb _ _ z, isLeaf, eq-eqb _ _ t)
+
+  pub leaf-variable : (r : Bool) → w .b ≡ NONE → (w .tag ≡ 7 → ⊥) → eqb (w .tag) 8 ≡ r → isLeaf w ≡ r
+  unfolding isLeaf
+  leaf-variable r z t q = rw (eq-eqb _ _ z, isLeaf, ne-eqb _ _ t) q
+
+  pub leaf-parts : isLeaf w ≡ true → (w .b ≡ NONE) × (7 ≤ w .tag) × (w .tag ≤ 8)
+  leaf-parts q = go (ℕ-discrete (w .b) NONE) (ℕ-discrete (w .tag) 7) (ℕ-discrete (w .tag) 8)
+    where
+      go : Dec (w .b ≡ NONE) → Dec (w .tag ≡ 7) → Dec (w .tag ≡ 8) → (w .b ≡ NONE) × (7 ≤ w .tag) × (w .tag ≤ 8)
+      go (yes z) (yes t) c = (z, omega arith, omega arith)
+      go (yes z) (no t) (yes c) = (z, omega arith, omega arith)
+      go (yes z) (no t) (no c) = let k : false ≡ true = sym (leaf-variable false z t (ne-eqb _ _ c)) ∙ q in let no : _≡_ {A = ℕ} 0 1 = cc in absurd (omega arith)
+      go (no z) t c = let k : false ≡ true = sym (leaf-applied z) ∙ q in let no : _≡_ {A = ℕ} 0 1 = cc in absurd (omega arith)

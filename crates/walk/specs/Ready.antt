@@ -2,51 +2,75 @@
 use Prim.Native.Nat.{ℕ, suc, _+_, _*_, _<_, _≤_}
 use mathlib.Core.Path.{_≡_, sym, _∙_}
 use mathlib.Core.List.{List}
-use mathlib.Core.Bool.{Bool}
+use mathlib.Core.Bool.{Bool, false}
 use native.Mathlib.Omega.{arith}
 use native.Mathlib.Decide.{ℕ-discrete}
 use lib.ListN.{length, getD, length-map}
 use lib.Dec.{eqb}
+use mir.Syntax.{w32}
+use mir.Val.{Fits}
 use borrow.Author.Tests.{ne-eqb, eqb-false}
 use Rattle.rules.specs.declared.Found.{Found}
-use Rattle.rules.specs.declared.Found.the-variants.{At, Nowhere}
-use Rattle.rules.specs.declared.Failure.the-variants.{Escape}
+use Rattle.rules.specs.declared.Found.the-variants.{At}
 use Rattle.store.specs.declared.Walked.{Walked}
-use Rattle.store.specs.declared.Walked.the-variants.{Failed}
 use Rattle.table.specs.declared.Record.{Record}
 use Rattle.table.specs.Reading.{IsRecord}
 use Rattle.places.specs.declared.Map.{Map}
 use Rattle.rules.specs.Words.{NONE, tag, fieldA, fieldB, elements, arguments, variables}
-use Rattle.rules.specs.Store.{push}
+use Rattle.rules.specs.Store.{pushOccurrence}
 use Rattle.laws.specs.Lists.{size}
-use Rattle.invariants.specs.Floor.{Sub, Args, Fine}
+use Rattle.invariants.specs.Floor.{Sub, Args, Fine, limit}
 use Rattle.invariants.specs.Grow.{all-map, sub-less, args-less}
 use Rattle.invariants.specs.Places.{Low, followed}
 use Rattle.invariants.specs.Rise.{reach, raised, raised-first, raised-on, Rises, rises}
 use Rattle.invariants.specs.Keep.{highest}
 use Rattle.promise.specs.WalkKnown.{WalkKnown, WalkAllKnown, walk-body, walk-constant, walk-variable, walk-arguments, walk-arity, walk-solution}
 use Rattle.store.specs.Said.{store, Does, Then, over}
-use Rattle.places.specs.Maps.{Whole}
+use Rattle.places.specs.Maps.{Whole, mapOf, side}
 use Rattle.places.specs.Looking.{Looks, Within}
 use Rattle.places.specs.Lists.{varsOf}
 use Rattle.places.specs.Follow.{Following, Followed}
+use Rattle.narrow.specs.Writing.{Writing}
 use Rattle.narrow.specs.Narrowing.{Narrowing}
+use Rattle.rewrite.specs.Renamed.{Full, full-place}
+use Rattle.rewrite.specs.Renamings.{Renamings}
 use Rattle.rewrite.specs.Levels.{Headed, of-constant, of-variable}
 use Rattle.rewrite.specs.Parts.{term-read, body-at, args-at, size-args, few-at, counts-at, hole-held, narrows}
 use Rattle.walk.specs.Head.{headOf, head-at, head-plain}
-use Rattle.walk.specs.Walks.{mapAt, WalksT, WalksF, WalksL, WalksH, walk-rigid, walk-leaf, walk-escape, walk-hole, hole-hops}
+use Rattle.walk.specs.Walks.{mapAt, WalksTerm, WalksList, WalksHole, walk-rigid, walk-hole, hole-kept, hole-hops}
+
+-- how far variables may be led from x on, at a measure k: a copy, in which every position has a place, leads by no more than the depth
+pub data Led (R u : ℕ) (m : Map) (used F x k : ℕ) : Type 0 where
+  copying : u ≡ NONE → (F ≡ 0 → ⊥) → Full m → x + k ≤ limit used → Led R u m used F x k
+  solving : (u ≡ NONE → ⊥) → u < used → x + reach R F k ≤ highest → Led R u m used F x k
+
+module _ {R u : ℕ} {m : Map} {used F x k : ℕ} where
+  pub led-part : (v x₁ k₁ : ℕ) → Led R u m used F x k → used ≤ v → x₁ + k₁ ≤ x + k → Led R u m v F x₁ k₁
+  led-part v x₁ k₁ (copying z a f h) l le = copying z a f (omega arith)
+  led-part v x₁ k₁ (solving z a h) l le = solving z (omega arith) (omega arith)
+
+  led-low : Led R u m used F x k → used ≤ 4096 → x < 134217728
+  led-low (copying z a f h) l = omega arith
+  led-low (solving z a h) l = omega arith
+
+  pub led-solving : Led R u m used F x k → (u ≡ NONE → ⊥) → (u < used) × (x + reach R F k ≤ highest)
+  led-solving (copying z a f h) n = absurd (n z)
+  led-solving (solving z a h) n = (a, h)
+
+  led-copying : Led R u m used F x k → u ≡ NONE → (F ≡ 0 → ⊥) × Full m
+  led-copying (copying z a f h) e = (a, f)
+  led-copying (solving z a h) e = absurd (z e)
 
 -- what every walk asks, at a measure k
 pub record On (R n u : ℕ) (m : Map) (home : ℕ → ℕ) (ws ss : List ℕ) (used F d k : ℕ) : Type 0 where
   pub fine : Fine R n home (store ws ss used)
-  pub hole : u < used
   pub whole : Whole m
   pub top : ℕ
   pub low : Low (mapAt F m) top
-  pub fits : top + d + reach R F k ≤ highest
+  pub led : Led R u m used F (top + d) k
 
 -- a term; its scope is the number of variables outside its lambdas, and below a solved hole the map has a position for each of them
-pub record ReadyT (R n u : ℕ) (m : Map) (ws ss : List ℕ) (used F d r : ℕ) : Type 0 where
+pub record ReadyTerm (R n u : ℕ) (m : Map) (ws ss : List ℕ) (used F d r : ℕ) : Type 0 where
   pub home : ℕ → ℕ
   pub is : Sub ws home F used r
   pub on : On R n u m home ws ss used F d (suc r)
@@ -55,21 +79,11 @@ pub record ReadyT (R n u : ℕ) (m : Map) (ws ss : List ℕ) (used F d r : ℕ) 
   pub known : WalkKnown R (store ws ss used) scope d r
 
 -- a term that is no lambda
-pub record ReadyB (R n u : ℕ) (m : Map) (ws ss : List ℕ) (used F d r : ℕ) : Type 0 where
-  pub on : ReadyT R n u m ws ss used F d r
+pub record ReadyBody (R n u : ℕ) (m : Map) (ws ss : List ℕ) (used F d r : ℕ) : Type 0 where
+  pub on : ReadyTerm R n u m ws ss used F d r
   pub plain : tag ws r ≡ 6 → ⊥
 
--- a rigid head without arguments
-pub record ReadyF (R n : ℕ) (m : Map) (ws : List ℕ) (used F d r : ℕ) : Type 0 where
-  pub reads : 4 * r + 3 < length ws
-  pub looks : Looks (eqb F 0) m d
-  pub within : tag ws r ≡ 8 → Within (eqb F 0) m d (fieldA ws r)
-  pub room : 4 * R ≤ length ws
-  pub since : n ≤ used
-  pub rigid : (7 ≤ tag ws r) × (tag ws r ≤ 8)
-  pub bare : fieldB ws r ≡ NONE
-
-pub record ReadyL (R n u : ℕ) (m : Map) (ws ss : List ℕ) (used F d l : ℕ) : Type 0 where
+pub record ReadyList (R n u : ℕ) (m : Map) (ws ss : List ℕ) (used F d l : ℕ) : Type 0 where
   pub home : ℕ → ℕ
   pub is : Args ws home F used l
   pub few : length (elements ws l) ≤ 16
@@ -78,25 +92,36 @@ pub record ReadyL (R n u : ℕ) (m : Map) (ws ss : List ℕ) (used F d l : ℕ) 
   pub within : (F ≡ 0 → ⊥) → scope ≤ m .len
   pub known : WalkAllKnown R (store ws ss used) scope d l
 
-pub record ReadyH (R n u : ℕ) (m : Map) (ws ss : List ℕ) (used F d r : ℕ) : Type 0 where
-  pub on : ReadyT R n u m ws ss used F d r
+-- a list that is not empty
+pub record ReadyArgs (R n u : ℕ) (m : Map) (ws ss : List ℕ) (used F d l : ℕ) : Type 0 where
+  pub list : ReadyList R n u m ws ss used F d l
+  pub some : l ≡ NONE → ⊥
+
+-- an occurrence
+pub record ReadyHole (R n u : ℕ) (m : Map) (ws ss : List ℕ) (used F d r : ℕ) : Type 0 where
+  pub on : ReadyTerm R n u m ws ss used F d r
   pub occ : tag ws r ≡ 9
 
-pub on-part : {R n u : ℕ} {m : Map} {home : ℕ → ℕ} {ws ss : List ℕ} {used F d k : ℕ} (d₁ k₁ : ℕ) → On R n u m home ws ss used F d k → d₁ + k₁ ≤ d + k → On R n u m home ws ss used F d₁ k₁
-on-part d₁ k₁ o h = let f = o .fits in record { fine = o .fine; hole = o .hole; whole = o .whole; top = o .top; low = o .low; fits = omega arith }
+-- at an occurrence w of a solved hole: the map that follows its arguments, the solution t, the floor G there
+pub record Hopping (R n u : ℕ) (m : Map) (ws ss : List ℕ) (used F d r : ℕ) (w : Record) (next : Map) (t G : ℕ) : Type 0 where
+  pub on : ReadyHole R n u m ws ss used F d r
+  pub is : IsRecord ws r w
+  pub some : u ≡ NONE → ⊥
+  pub other : w .a ≡ u → ⊥
+  pub follows : Followed ws (eqb F 0) m d (w .b) next
+  pub solution : getD ss (w .a) NONE ≡ t
+  pub solved : t ≡ NONE → ⊥
+  pub floor : raised n F r ≡ G
 
--- the cycle's measure is four times the reach at a list, at an occurrence and at a body, one more at a term, two more at a side, and three more at an argument
-pub fall-argument : (R F r t : ℕ) → 4 * reach R F (suc r) + 3 ≡ t → 4 * reach R F (suc r) + 2 < t
+pub on-part : {R n u : ℕ} {m : Map} {home : ℕ → ℕ} {ws ss : List ℕ} {used F d k : ℕ} (d₁ k₁ : ℕ) → On R n u m home ws ss used F d k → d₁ + k₁ ≤ d + k → On R n u m home ws ss used F d₁ k₁
+on-part {used = used} d₁ k₁ o h = record { fine = o .fine; whole = o .whole; top = o .top; low = o .low; led = led-part used (o .top + d₁) k₁ (o .led) (omega arith) (omega arith) }
+
+-- the cycle's measure is three times the reach at a list, at an occurrence and at a body, one more at a term, and two more at an argument
+pub fall-argument : (R F r t : ℕ) → 3 * reach R F (suc r) + 2 ≡ t → 3 * reach R F (suc r) + 1 < t
 fall-argument R F r t z = omega arith
 
-pub fall-side : (R F r t : ℕ) → 4 * reach R F (suc r) + 2 ≡ t → 4 * reach R F (suc r) + 1 < t
-fall-side R F r t z = omega arith
-
-pub fall-hole : (R F r t : ℕ) → 4 * reach R F (suc r) ≡ t → 4 * reach R F r < t
+pub fall-hole : (R F r t : ℕ) → 3 * reach R F (suc r) ≡ t → 3 * reach R F r < t
 fall-hole R F r t z = omega arith
-
-pub fall-occurrence : (R F r t : ℕ) → 4 * reach R F (suc r) + 2 ≡ t → 4 * reach R F r < t
-fall-occurrence R F r t z = omega arith
 
 -- the map that follows an occurrence's arguments has a position for each
 as-many : {ws : List ℕ} {b : Bool} {m : Map} {d r : ℕ} {w : Record} {next : Map} → IsRecord ws r w → Followed ws b m d (w .b) next → length (variables ws r) ≡ next .len
@@ -104,24 +129,27 @@ unfolding variables arguments
 as-many {ws} {r = r} {next = next} e g = let k : length (elements ws (fieldB ws r)) ≡ next .len = rw (← e .b-is) (sym (g .len)) in simp length-map k
 
 module _ {R n u : ℕ} {m : Map} {ws ss : List ℕ} {used F d r : ℕ} where
-  pub to-read : ReadyT R n u m ws ss used F d r → 4 * r + 3 < length ws
+  pub to-read : ReadyTerm R n u m ws ss used F d r → 4 * r + 3 < length ws
   to-read h = term-read R n (h .home) ws ss used F r (h .on .fine) (h .is)
 
-  pub look : ReadyT R n u m ws ss used F d r → Looks (eqb F 0) m d
-  look h = let f = h .on .fits in record { top = h .on .top; whole = h .on .whole; low = h .on .low; fits = omega arith }
+  pub look : ReadyTerm R n u m ws ss used F d r → Looks (eqb F 0) m d
+  look h = let w = h .on .fine .within in let f = h .on .fine .few in record { top = h .on .top; whole = h .on .whole; low = h .on .low; fits = led-low (h .on .led) (omega arith) }
+
+  pub to-depth : ReadyTerm R n u m ws ss used F d r → Fits w32 (d + 1)
+  to-depth h = let f = look h .fits in record { fits = omega arith }
 
   -- a variable in scope is bound inside or, below a solved hole, has a position
-  inside : (h : ReadyT R n u m ws ss used F d r) (v : ℕ) → v < d + h .scope → Within (eqb F 0) m d v
+  inside : (h : ReadyTerm R n u m ws ss used F d r) (v : ℕ) → v < d + h .scope → Within (eqb F 0) m d v
   inside h v lt = record { within = λ z. let k = h .within (eqb-false F 0 z) in omega arith }
 
   -- the body of a lambda
-  body : (w : Record) → IsRecord ws r w → w .tag ≡ 6 → (h : ReadyT R n u m ws ss used F d r) → Sub ws (h .home) F r (w .a)
+  body : (w : Record) → IsRecord ws r w → w .tag ≡ 6 → (h : ReadyTerm R n u m ws ss used F d r) → Sub ws (h .home) F r (w .a)
   body w e t h = body-at R n (h .home) ws ss used F r (h .on .fine) (h .is) w e t
 
-  pub body-less : (w : Record) → IsRecord ws r w → w .tag ≡ 6 → ReadyT R n u m ws ss used F d r → w .a < r
+  pub body-less : (w : Record) → IsRecord ws r w → w .tag ≡ 6 → ReadyTerm R n u m ws ss used F d r → w .a < r
   body-less w e k h = body w e k h .below
 
-  pub to-body : (w : Record) → IsRecord ws r w → w .tag ≡ 6 → ReadyT R n u m ws ss used F d r → ReadyT R n u m ws ss used F (d + 1) (w .a)
+  pub to-body : (w : Record) → IsRecord ws r w → w .tag ≡ 6 → ReadyTerm R n u m ws ss used F d r → ReadyTerm R n u m ws ss used F (d + 1) (w .a)
   to-body w e k h =
       let b = body w e k h in
       let b₀ = b .below in
@@ -136,13 +164,13 @@ module _ {R n u : ℕ} {m : Map} {ws ss : List ℕ} {used F d r : ℕ} where
       }
 
   -- a rigid head
-  pub in-scope : (w : Record) → IsRecord ws r w → ReadyT R n u m ws ss used F d r → w .tag ≡ 8 → Within (eqb F 0) m d (w .a)
+  pub in-scope : (w : Record) → IsRecord ws r w → ReadyTerm R n u m ws ss used F d r → w .tag ≡ 8 → Within (eqb F 0) m d (w .a)
   in-scope w e h t = rw (e .a-is) (inside h (fieldA ws r) (walk-variable (h .known) (sym (e .tag-is) ∙ t) .0))
 
-  pub headed : (w : Record) (s : Found) (v : ℕ) → IsRecord ws r w → (w .tag ≡ 6 → ⊥) → (w .tag ≡ 9 → ⊥) → ReadyT R n u m ws ss used F d r → headOf (mapAt F m) d w ≡ s → s ≡ At v → Headed (mapAt F m) d w v
+  pub headed : (w : Record) (s : Found) (v : ℕ) → IsRecord ws r w → (w .tag ≡ 6 → ⊥) → (w .tag ≡ 9 → ⊥) → ReadyTerm R n u m ws ss used F d r → headOf (mapAt F m) d w ≡ s → s ≡ At v → Headed (mapAt F m) d w v
   headed w s v e a b h p q = let lo = h .is .term .low in let hi = h .is .term .high in let z = e .tag-is in head-at _ _ _ s p v (omega arith) (omega arith) q
 
-  module _ (w : Record) (v : ℕ) (e : IsRecord ws r w) (g : Headed (mapAt F m) d w v) (h : ReadyT R n u m ws ss used F d r) where
+  module _ (w : Record) (v : ℕ) (e : IsRecord ws r w) (g : Headed (mapAt F m) d w v) (h : ReadyTerm R n u m ws ss used F d r) where
     plain : w .tag ≡ 6 → ⊥
     plain = head-plain _ _ _ v g
 
@@ -156,7 +184,7 @@ module _ {R n u : ℕ} {m : Map} {ws ss : List ℕ} {used F d r : ℕ} where
         go (of-constant t _) = walk-constant (h .known) (sym (e .tag-is) ∙ t)
         go (of-variable t _) = walk-variable (h .known) (sym (e .tag-is) ∙ t) .1
 
-    pub to-args : ReadyL R n u m ws ss used F d (w .b)
+    pub to-args : ReadyList R n u m ws ss used F d (w .b)
     to-args =
         let s = args-size in
         let i = h .is .below in
@@ -170,43 +198,36 @@ module _ {R n u : ℕ} {m : Map} {ws ss : List ℕ} {used F d r : ℕ} where
           known = knows;
         }
 
-    pub walked-rigid : (ws₁ ss₁ : List ℕ) (x : Walked) (ws₂ : List ℕ) (y : Walked) → WalksL R n u m ws ss used F d (w .b) ws₁ ss₁ x → Then n (over R (w .tag) v) ws₁ x ws₂ y → WalksT R n u m ws ss used F d r ws₂ ss₁ y
+    pub walked-rigid : (ws₁ ss₁ : List ℕ) (x : Walked) (ws₂ : List ℕ) (y : Walked) → WalksList R n u m ws ss used F d (w .b) ws₁ ss₁ x → Then n (over R (w .tag) v) ws₁ x ws₂ y → WalksTerm R n u m ws ss used F d r ws₂ ss₁ y
     walked-rigid ws₁ ss₁ x ws₂ y p q = walk-rigid R n u m ws ss used F d r w e v ws₁ ss₁ x ws₂ y g (let s = args-size in omega arith) p q
 
-  -- an argument that is a rigid head without arguments
-  leaf : (w : Record) → IsRecord ws r w → w .b ≡ NONE → 7 ≤ w .tag → w .tag ≤ 8 → ReadyT R n u m ws ss used F d r → ReadyF R n m ws used F d r
-  leaf w e z lo hi h =
-      let t = e .tag-is in
-      record {
-        reads = to-read h;
-        looks = look h;
-        within = λ eight. inside h (fieldA ws r) (walk-variable (h .known) eight .0);
-        room = h .on .fine .room;
-        since = h .on .fine .since;
-        rigid = (omega arith, omega arith);
-        bare = sym (e .b-is) ∙ z;
-      }
-
-  pub to-constant : (w : Record) → IsRecord ws r w → w .b ≡ NONE → w .tag ≡ 7 → ReadyT R n u m ws ss used F d r → ReadyF R n m ws used F d r
-  to-constant w e z k h = leaf w e z (omega arith) (omega arith) h
-
-  pub to-variable : (w : Record) → IsRecord ws r w → w .b ≡ NONE → w .tag ≡ 8 → ReadyT R n u m ws ss used F d r → ReadyF R n m ws used F d r
-  to-variable w e z k h = leaf w e z (omega arith) (omega arith) h
-
-  pub walked-leaf : (ws₁ : List ℕ) (x : Walked) → WalksF R n m ws used F d r ws₁ x → WalksT R n u m ws ss used F d r ws₁ ss x
-  walked-leaf ws₁ x p = p .for u ss
-
   -- an occurrence
-  pub to-hole : (w : Record) → IsRecord ws r w → w .tag ≡ 9 → ReadyT R n u m ws ss used F d r → ReadyH R n u m ws ss used F d r
+  pub to-hole : (w : Record) → IsRecord ws r w → w .tag ≡ 9 → ReadyTerm R n u m ws ss used F d r → ReadyHole R n u m ws ss used F d r
   to-hole w e t h = record { on = h; occ = sym (e .tag-is) ∙ t }
 
-  pub walked-hole : (w : Record) (ws₁ ss₁ : List ℕ) (x : Walked) → IsRecord ws r w → w .tag ≡ 9 → WalksH R n u m ws ss used F d r ws₁ ss₁ x → WalksT R n u m ws ss used F d r ws₁ ss₁ x
+  pub walked-hole : (w : Record) (ws₁ ss₁ : List ℕ) (x : Walked) → IsRecord ws r w → w .tag ≡ 9 → WalksHole R n u m ws ss used F d r ws₁ ss₁ x → WalksTerm R n u m ws ss used F d r ws₁ ss₁ x
   walked-hole w ws₁ ss₁ x e t p = walk-hole R n u m ws ss used F d r ws₁ ss₁ x (sym (e .tag-is) ∙ t) p
 
-  pub to-read-h : ReadyH R n u m ws ss used F d r → 4 * r + 3 < length ws
-  to-read-h h = to-read (h .on)
+  -- in a copy every argument has a place
+  pub to-names : (w : Record) → IsRecord ws r w → u ≡ NONE → ReadyHole R n u m ws ss used F d r → Renamings ws m d (w .b)
+  unfolding variables arguments
+  to-names w e z h =
+      let c = led-copying (h .on .on .led) z in
+      let i = h .on .within (c .0) in
+      record {
+        counts = counts-at R n (h .on .home) ws ss used F r (h .on .on .fine) (h .on .is) w e (h .occ);
+        looks = rw (ne-eqb F 0 (c .0)) at (look (h .on));
+        have = rw (e .b-is) (all-map _ _ (λ v lt. full-place m d v (h .on .on .whole) (c .1) (omega arith)) (variables ws r) (walk-arguments (h .on .known) (h .occ)));
+      }
 
-  pub to-follow : (w : Record) → IsRecord ws r w → ReadyH R n u m ws ss used F d r → Following ws (eqb F 0) m d (w .b)
+  pub to-write : (w : Record) (next : Map) → Followed ws false m d (w .b) next → ReadyHole R n u m ws ss used F d r → Writing ws n used R next
+  to-write w next f h = record { room = h .on .on .fine .room; since = h .on .on .fine .since; whole = f .whole }
+
+  pub walked-kept : (w : Record) (next : Map) (ws₁ : List ℕ) (x : Walked) → IsRecord ws r w → u ≡ NONE → ReadyHole R n u m ws ss used F d r → Followed ws false m d (w .b) next
+      → Does n (pushOccurrence R (w .a) (side false (mapOf false next))) ws used ws₁ x → WalksHole R n u m ws ss used F d r ws₁ ss x
+  walked-kept w next ws₁ x e z h f p = hole-kept R n u m ws ss used F d r w e next ws₁ x z (led-copying (h .on .on .led) z .0) f p
+
+  pub to-follow : (w : Record) → IsRecord ws r w → ReadyHole R n u m ws ss used F d r → Following ws (eqb F 0) m d (w .b)
   unfolding variables arguments
   to-follow w e h =
       record {
@@ -215,84 +236,60 @@ module _ {R n u : ℕ} {m : Map} {ws ss : List ℕ} {used F d r : ℕ} where
         within = rw (e .b-is) (all-map _ _ (inside (h .on)) (variables ws r) (walk-arguments (h .on .known) (h .occ)));
       }
 
-  pub to-solution : (w : Record) → IsRecord ws r w → ReadyH R n u m ws ss used F d r → w .a < length ss
+  pub to-solution : (w : Record) → IsRecord ws r w → ReadyHole R n u m ws ss used F d r → w .a < length ss
   to-solution w e h = hole-held R n (h .on .home) ws ss used F r (h .on .on .fine) (h .on .is) w e (h .occ)
 
-  pub to-keep : (w : Record) (next : Map) → IsRecord ws r w → ReadyH R n u m ws ss used F d r → Followed ws (eqb F 0) m d (w .b) next → Narrowing ws ss n used R (w .a) next
+  pub to-keep : (w : Record) (next : Map) → IsRecord ws r w → ReadyHole R n u m ws ss used F d r → Followed ws (eqb F 0) m d (w .b) next → Narrowing ws ss n used R (w .a) next
   to-keep w next e h g =
       narrows R n (h .on .home) ws ss used F r (h .on .on .fine) (h .on .is) w e (h .occ) next (g .whole) (sym (walk-arity (h .on .known) (h .occ)) ∙ as-many e g)
 
-  pub to-raise : ReadyH R n u m ws ss used F d r → r < 4096
+  pub to-raise : ReadyHole R n u m ws ss used F d r → r < 4096
   to-raise h = let lt = h .on .is .below in let wi = h .on .on .fine .within in let f = h .on .on .fine .few in omega arith
 
   -- below a solved hole the floor has risen, and is no higher than the solution's home
-  risen : (w : Record) (t G : ℕ) → IsRecord ws r w → getD ss (w .a) NONE ≡ t → (t ≡ NONE → ⊥) → raised n F r ≡ G → (h : ReadyH R n u m ws ss used F d r) → Rises R (h .on .home) (store ws ss used) F r G t
+  risen : (w : Record) (t G : ℕ) → IsRecord ws r w → getD ss (w .a) NONE ≡ t → (t ≡ NONE → ⊥) → raised n F r ≡ G → (h : ReadyHole R n u m ws ss used F d r) → Rises R (h .on .home) (store ws ss used) F r G t
   risen w t G e st z g h =
       let st₁ : getD ss (fieldA ws r) NONE ≡ t = rw (← e .a-is) st in
       rw (g, st₁) at (rises R n (h .on .home) (store ws ss used) F r (h .on .on .fine) (h .on .is .below) (h .occ) (h .on .is .up) (λ q. z (sym st₁ ∙ q)))
 
-  pub fall-hop : (w : Record) (t G k : ℕ) → 4 * reach R F r ≡ k → IsRecord ws r w → getD ss (w .a) NONE ≡ t → (t ≡ NONE → ⊥) → raised n F r ≡ G → ReadyH R n u m ws ss used F d r → 4 * reach R G (suc t) + 1 < k
-  fall-hop w t G k y e st z g h = let a = risen w t G e st z g h .falls in omega arith
-
   -- the floor there is no 0
-  above : (G : ℕ) → raised n F r ≡ G → ReadyH R n u m ws ss used F d r → G ≡ 0 → ⊥
+  above : (G : ℕ) → raised n F r ≡ G → ReadyHole R n u m ws ss used F d r → G ≡ 0 → ⊥
   above G g h q = go (ℕ-discrete F 0)
     where
       go : Dec (F ≡ 0) → ⊥
       go (yes z) = let one = h .on .on .fine .some in let e = raised-first n F r z in absurd (omega arith)
       go (no z) = let e = raised-on n F r z in absurd (omega arith)
 
-  module _ (w : Record) (next : Map) (t G : ℕ) (e : IsRecord ws r w) (st : getD ss (w .a) NONE ≡ t) (z : t ≡ NONE → ⊥) (g : raised n F r ≡ G) (fo : Followed ws (eqb F 0) m d (w .b) next)
-      (h : ReadyH R n u m ws ss used F d r) where
-    pub to-hop : ReadyT R n u next ws ss used G 0 t
+  -- what is known where the walk goes on below a solved hole
+  module _ {w : Record} {next : Map} {t G : ℕ} (k : Hopping R n u m ws ss used F d r w next t G) where
+    goes-up : Rises R (k .on .on .home) (store ws ss used) F r G t
+    goes-up = risen w t G (k .is) (k .solution) (k .solved) (k .floor) (k .on)
+
+    pub fall-hop : (j : ℕ) → 3 * reach R F r ≡ j → 3 * reach R G (suc t) + 1 < j
+    fall-hop j y = let a = goes-up .falls in omega arith
+
+    pub to-hop : ReadyTerm R n u next ws ss used G 0 t
     to-hop =
-        let fh = risen w t G e st z g h .falls in
-        let f = h .on .on .fits in
-        let tp = h .on .on .top in
-        let many = as-many e fo in
+        let fh = goes-up .falls in
+        let o = k .on .on .on in
+        let l = led-solving (o .led) (k .some) in
+        let hi = l .1 in
+        let many = as-many (k .is) (k .follows) in
         record {
-          home = h .on .home;
-          is = risen w t G e st z g h .sub;
+          home = k .on .on .home;
+          is = goes-up .sub;
           on = record {
-            fine = h .on .on .fine;
-            hole = h .on .on .hole;
-            whole = fo .whole;
-            top = tp + d;
-            low = rw (ne-eqb G 0 (above G g h), fo .run) (followed (mapAt F m) d tp 0 (varsOf ws (w .b)) (h .on .on .low) .low);
-            fits = omega arith;
+            fine = o .fine;
+            whole = k .follows .whole;
+            top = o .top + d;
+            low = rw (ne-eqb G 0 (above G (k .floor) (k .on)), k .follows .run) (followed (mapAt F m) d (o .top) 0 (varsOf ws (w .b)) (o .low) .low);
+            led = solving (k .some) (l .0) (omega arith);
           };
           scope = length (variables ws r);
           within = λ _. omega arith;
-          known = walk-solution (h .on .known) (h .occ) t (rw (← e .a-is) st) z;
+          known = walk-solution (k .on .on .known) (k .on .occ) t (rw (← k .is .a-is) (k .solution)) (k .solved);
         }
 
-    pub hops : (ws₁ ss₁ : List ℕ) (x : Walked) → (w .a ≡ u → ⊥) → WalksT R n u next ws ss used G 0 t ws₁ ss₁ x → WalksH R n u m ws ss used F d r ws₁ ss₁ x
-    hops ws₁ ss₁ x ne p = hole-hops R n u m ws ss used F d r w e ne next fo t st G ws₁ ss₁ x z (above G g h) (risen w t G e st z g h .falls) p
-
--- a rigid head without arguments
-module _ {R n : ℕ} {m : Map} {ws : List ℕ} {used F d r : ℕ} (h : ReadyF R n m ws used F d r) where
-  pub leaf-read : 4 * r + 3 < length ws
-  leaf-read = h .reads
-
-  pub leaf-look : Looks (eqb F 0) m d
-  leaf-look = h .looks
-
-  pub leaf-within : (w : Record) → IsRecord ws r w → w .tag ≡ 8 → Within (eqb F 0) m d (w .a)
-  leaf-within w e t = rw (e .a-is) (h .within (sym (e .tag-is) ∙ t))
-
-  pub leaf-room : 4 * R ≤ length ws
-  leaf-room = h .room
-
-  pub leaf-since : n ≤ used
-  leaf-since = h .since
-
-  module _ (w : Record) (e : IsRecord ws r w) where
-    pub leaf-walked : (s : Found) (v : ℕ) (ws₁ : List ℕ) (x : Walked) → headOf (mapAt F m) d w ≡ s → s ≡ At v → Does n (push R (w .tag) v NONE) ws used ws₁ x → WalksF R n m ws used F d r ws₁ x
-    leaf-walked s v ws₁ x p q g =
-        let lo = h .rigid .0 in
-        let hi = h .rigid .1 in
-        let z = e .tag-is in
-        record { for = λ u ss. walk-leaf R n u m ws ss used F d r w e v ws₁ x (head-at _ _ _ s p v (omega arith) (omega arith) q) (e .b-is ∙ h .bare) g }
-
-    pub leaf-escape : (s : Found) → headOf (mapAt F m) d w ≡ s → s ≡ Nowhere → WalksF R n m ws used F d r ws (Failed Escape)
-    leaf-escape s p q = record { for = λ u ss. walk-escape R n u m ws ss used F d r w e s p q }
+    pub hops : (ws₁ ss₁ : List ℕ) (x : Walked) → WalksTerm R n u next ws ss used G 0 t ws₁ ss₁ x → WalksHole R n u m ws ss used F d r ws₁ ss₁ x
+    hops ws₁ ss₁ x p =
+        hole-hops R n u m ws ss used F d r w (k .is) (k .some) (k .other) next (k .follows) t (k .solution) G ws₁ ss₁ x (k .solved) (above G (k .floor) (k .on)) (goes-up .falls) p

@@ -1,11 +1,14 @@
-// The walk of the other side for the hole that is solved.
+// The walk of the other side for the hole that is solved, and copying, which is a walk for no hole.
 use narrow::keep_placed;
 use narrow::push_cells;
+use narrow::push_occurrence;
 use places::Map;
 use places::Place;
 use places::arguments;
 use places::follow;
 use places::place_of;
+use rewrite::renamings;
+use rewrite::then_lambdas;
 use rules::Failure;
 use rules::Found;
 use store::Walked;
@@ -24,19 +27,18 @@ use table::VA;
 use table::Variable;
 use table::read;
 ghost use mathlib.Core.Path.{_≡_};
-ghost use mathlib.Core.List.{[], _∷_};
-ghost use Prim.Native.Nat.{_*_, _<_, _≤_};
-ghost use lib.ListN.{length, take};
+ghost use Prim.Native.Nat.{_<_};
+ghost use lib.ListN.{length};
 ghost use Rattle.rules.specs.Walk.{assign as assignOf};
-ghost use Rattle.store.specs.Said.{Since, Does²};
+ghost use Rattle.store.specs.Said.{Does²};
 ghost use Rattle.places.specs.Maps.{mapOf};
 ghost use Rattle.places.specs.Looking.{Looks, Within};
-ghost use Rattle.walk.specs.Head.{headOf};
-ghost use Rattle.walk.specs.Walks.{WalksT, WalksF, WalksL, WalksH};
 ghost use Rattle.invariants.specs.Rise.{raised};
-ghost use Rattle.walk.specs.Ready.{ReadyT, ReadyB, ReadyF, ReadyL, ReadyH};
-ghost use Rattle.walk.specs.Layers.{Layering, Outermost, Layered};
+ghost use Rattle.walk.specs.Head.{headOf, isLeaf};
+ghost use Rattle.walk.specs.Walks.{WalksTerm, WalksList, WalksHole};
+ghost use Rattle.walk.specs.Ready.{ReadyTerm, ReadyBody, ReadyArgs, ReadyHole};
 ghost use Rattle.walk.specs.Assign.{Assigning, Records};
+ghost use Rattle.walk.specs.Solution.{Copying, CopiesSolution};
 
 // The floor below a solved hole that is met at a record: n on the side of a pair, else past the record. It is there for the proof
 // that the walk ends: no record below the floor is read, and it rises at each solved hole.
@@ -64,73 +66,22 @@ fn head_of(map: Map, above: bool, depth: u32, rec: Record) -> Found
     Found::At(rec.a)
 }
 
-// What stands outermost in a term: a lambda, a constant applied to an only argument, or nothing that is noted.
-enum Layer {
-    Lambda(u32),
-    Only { constant: u32, argument: u32 },
-    Body,
-}
-
-// The outermost layer of a term.
-fn layer_of(table: &[u32], at: u32) -> Layer
-    requires { ⌜ Layering (now table) at ⌝ }
-    ensures { λ r. ⌜ Outermost (now (table .entry)) at r ⌝ }
+// Whether a term is a rigid head without arguments.
+fn is_leaf(rec: Record) -> bool
+    ensures { λ r. ⌜ isLeaf rec ≡ r ⌝ }
 {
-    let rec = read(table, at);
-    if rec.tag == LA {
-        return Layer::Lambda(rec.a);
+    if rec.b != NONE {
+        return false;
     }
-    if rec.tag != CA {
-        return Layer::Body;
+    if rec.tag == CA {
+        return true;
     }
-    if rec.b == NONE {
-        return Layer::Body;
-    }
-    let cell = read(table, rec.b);
-    if cell.b != NONE {
-        return Layer::Body;
-    }
-    Layer::Only {
-        constant: rec.a,
-        argument: cell.a,
-    }
+    rec.tag == VA
 }
 
-// The records of one layer after what was written inside it, or the failure: a lambda for NONE, else the only argument's cell and the constant.
-fn then_layer(table: &mut [u32], n: u32, room: u32, note: u32, inside: Walked) -> Walked
-    requires { ⌜ (4 * room ≤ length (now table)) × Since n inside ⌝ }
-    ensures { λ r. ⌜ Layered n room (note ∷ []) (now (table .entry)) inside (now (table .exit)) r ⌝ }
-{
-    if note == NONE {
-        return then_under(table, n, room, LA, 0, inside);
-    }
-    let list = then_under(table, n, room, CE, NONE, inside);
-    then_over(table, n, room, CA, note, list)
-}
-
-// The records of the first k layers noted, the innermost first.
-fn then_layers(
-    table: &mut [u32],
-    n: u32,
-    room: u32,
-    noted: &[u32],
-    k: usize,
-    inside: Walked,
-) -> Walked
-    requires { ⌜ (4 * room ≤ length (now table)) × Since n inside × (k ≤ length (now noted)) ⌝ }
-    ensures { λ r. ⌜ Layered n room (take k (now (noted .entry))) (now (table .entry)) inside (now (table .exit)) r ⌝ }
-{
-    let mut walked = inside;
-    let mut i = k;
-    while 0 < i {
-        i -= 1;
-        walked = then_layer(table, n, room, noted[i], walked);
-    }
-    walked
-}
-
-// The walk of a term: up to 16 layers are noted on the way to its body, and written after it.
-// Records are written from n on, up to `room`; `hole` is solved; the floor is 0 on the side of a pair, where the map leads from places to positions.
+// The walk of a term: of the body below its lambdas, and then the lambdas.
+// Records are written from n on, up to `room`. `hole` is solved; NONE stands for no hole, and then the walk is a copy. The floor is 0 on
+// the side of a pair, where the map leads from places to positions.
 fn walk_term(
     table: &mut [u32],
     solutions: &mut [u32],
@@ -143,35 +94,30 @@ fn walk_term(
     depth: u32,
     at: u32,
 ) -> Walked
-    requires { ⌜ ReadyT room n (hole .0) map (now table) (now solutions) used floor depth at ⌝ }
-    ensures { λ r. ⌜ WalksT room n (hole .0) map (now (table .entry)) (now (solutions .entry)) used floor depth at (now (table .exit)) (now (solutions .exit)) r ⌝ }
+    requires { ⌜ ReadyTerm room n (hole .0) map (now table) (now solutions) used floor depth at ⌝ }
+    ensures { λ r. ⌜ WalksTerm room n (hole .0) map (now (table .entry)) (now (solutions .entry)) used floor depth at (now (table .exit)) (now (solutions .exit)) r ⌝ }
 {
-    let mut noted = [0u32; 16];
-    let mut k = 0;
-    let mut d = depth;
+    let mut inner = depth;
     let mut term = at;
-    loop {
-        if k == 16 {
-            let rest = walk_term(table, solutions, n, used, room, hole, floor, map, d, term);
-            return then_layers(table, n, room, &noted, k, rest);
-        }
-        match layer_of(table, term) {
-            Layer::Lambda(body) => {
-                noted[k] = NONE;
-                d += 1;
-                term = body;
-            }
-            Layer::Only { constant, argument } => {
-                noted[k] = constant;
-                term = argument;
-            }
-            Layer::Body => {
-                let body = walk_body(table, solutions, n, used, room, hole, floor, map, d, term);
-                return then_layers(table, n, room, &noted, k, body);
-            }
-        }
-        k += 1;
+    let mut rec = read(table, at);
+    while rec.tag == LA {
+        inner += 1;
+        term = rec.a;
+        rec = read(table, term);
     }
+    let body = walk_body(
+        table,
+        solutions,
+        n,
+        used,
+        room,
+        hole,
+        floor,
+        map,
+        inner,
+        term,
+    );
+    then_lambdas(table, n, room, inner - depth, body)
 }
 
 // The walk of a term that is no lambda: a head is looked at before its arguments.
@@ -187,8 +133,8 @@ fn walk_body(
     depth: u32,
     at: u32,
 ) -> Walked
-    requires { ⌜ ReadyB room n (hole .0) map (now table) (now solutions) used floor depth at ⌝ }
-    ensures { λ r. ⌜ WalksT room n (hole .0) map (now (table .entry)) (now (solutions .entry)) used floor depth at (now (table .exit)) (now (solutions .exit)) r ⌝ }
+    requires { ⌜ ReadyBody room n (hole .0) map (now table) (now solutions) used floor depth at ⌝ }
+    ensures { λ r. ⌜ WalksTerm room n (hole .0) map (now (table .entry)) (now (solutions .entry)) used floor depth at (now (table .exit)) (now (solutions .exit)) r ⌝ }
 {
     let rec = read(table, at);
     if rec.tag == HA {
@@ -215,28 +161,8 @@ fn walk_body(
     then_over(table, n, room, rec.tag, head, args)
 }
 
-// The walk of a rigid head without arguments: no solution is read or written.
-fn walk_leaf(
-    table: &mut [u32],
-    n: u32,
-    used: u32,
-    room: u32,
-    floor: u32,
-    map: Map,
-    depth: u32,
-    at: u32,
-) -> Walked
-    requires { ⌜ ReadyF room n map (now table) used floor depth at ⌝ }
-    ensures { λ r. ⌜ WalksF room n map (now (table .entry)) used floor depth at (now (table .exit)) r ⌝ }
-{
-    let leaf = read(table, at);
-    let Found::At(head) = head_of(map, floor == 0, depth, leaf) else {
-        return Walked::Failed(Failure::Escape);
-    };
-    push(table, n, used, room, leaf.tag, head, NONE)
-}
-
-// The walk of an argument: most are rigid heads without arguments, and take no walk of a term.
+// The walk of one of several arguments: a rigid head without arguments takes no walk of a term ("one large solution" large: 1.18 of the
+// plain version so, 1.34 with a walk of a term).
 fn walk_argument(
     table: &mut [u32],
     solutions: &mut [u32],
@@ -249,22 +175,21 @@ fn walk_argument(
     depth: u32,
     at: u32,
 ) -> Walked
-    requires { ⌜ ReadyT room n (hole .0) map (now table) (now solutions) used floor depth at ⌝ }
-    ensures { λ r. ⌜ WalksT room n (hole .0) map (now (table .entry)) (now (solutions .entry)) used floor depth at (now (table .exit)) (now (solutions .exit)) r ⌝ }
+    requires { ⌜ ReadyTerm room n (hole .0) map (now table) (now solutions) used floor depth at ⌝ }
+    ensures { λ r. ⌜ WalksTerm room n (hole .0) map (now (table .entry)) (now (solutions .entry)) used floor depth at (now (table .exit)) (now (solutions .exit)) r ⌝ }
 {
-    let rec = read(table, at);
-    if rec.b == NONE {
-        if rec.tag == CA {
-            return walk_leaf(table, n, used, room, floor, map, depth, at);
-        }
-        if rec.tag == VA {
-            return walk_leaf(table, n, used, room, floor, map, depth, at);
-        }
+    let leaf = read(table, at);
+    if is_leaf(leaf) {
+        let Found::At(head) = head_of(map, floor == 0, depth, leaf) else {
+            return Walked::Failed(Failure::Escape);
+        };
+        return push(table, n, used, room, leaf.tag, head, NONE);
     }
-    walk_side(table, solutions, n, used, room, hole, floor, map, depth, at)
+    walk_term(table, solutions, n, used, room, hole, floor, map, depth, at)
 }
 
 // The walk of an argument list: arguments in order, then their cells from last to first.
+// An only argument takes no notes ("deep nest as solution" large: 1.35 of the plain version so, 1.54 with notes).
 fn walk_args(
     table: &mut [u32],
     solutions: &mut [u32],
@@ -277,30 +202,57 @@ fn walk_args(
     depth: u32,
     list: u32,
 ) -> Walked
-    requires { ⌜ ReadyL room n (hole .0) map (now table) (now solutions) used floor depth list ⌝ }
-    ensures { λ r. ⌜ WalksL room n (hole .0) map (now (table .entry)) (now (solutions .entry)) used floor depth list (now (table .exit)) (now (solutions .exit)) r ⌝ }
+    requires { ⌜ ReadyArgs room n (hole .0) map (now table) (now solutions) used floor depth list ⌝ }
+    ensures { λ r. ⌜ WalksList room n (hole .0) map (now (table .entry)) (now (solutions .entry)) used floor depth list (now (table .exit)) (now (solutions .exit)) r ⌝ }
 {
+    let first = read(table, list);
+    if first.b == NONE {
+        let only = walk_term(
+            table,
+            solutions,
+            n,
+            used,
+            room,
+            hole,
+            floor,
+            map,
+            depth,
+            first.a,
+        );
+        return then_under(table, n, room, CE, NONE, only);
+    }
     let mut noted = [0u32; 16];
     let mut k = 0;
-    let mut u = used;
+    let mut taken = used;
     let mut left = list;
     while left != NONE {
         let cell = read(table, left);
         let arg = cell.a;
-        match walk_argument(table, solutions, n, u, room, hole, floor, map, depth, arg) {
+        match walk_argument(
+            table,
+            solutions,
+            n,
+            taken,
+            room,
+            hole,
+            floor,
+            map,
+            depth,
+            arg,
+        ) {
             Walked::Failed(e) => return Walked::Failed(e),
             Walked::Root { root, used: then } => {
                 noted[k] = root;
                 k += 1;
-                u = then;
+                taken = then;
             }
         }
         left = cell.b;
     }
-    push_cells(table, n, u, room, &noted, k)
+    push_cells(table, n, taken, room, &noted, k)
 }
 
-// The walk at an occurrence: of the hole itself, of a solved hole, of another unsolved one.
+// The walk at an occurrence. A copy keeps holes as they are; else: of the hole itself, of a solved hole, of another unsolved one.
 fn walk_hole(
     table: &mut [u32],
     solutions: &mut [u32],
@@ -313,10 +265,14 @@ fn walk_hole(
     depth: u32,
     at: u32,
 ) -> Walked
-    requires { ⌜ ReadyH room n (hole .0) map (now table) (now solutions) used floor depth at ⌝ }
-    ensures { λ r. ⌜ WalksH room n (hole .0) map (now (table .entry)) (now (solutions .entry)) used floor depth at (now (table .exit)) (now (solutions .exit)) r ⌝ }
+    requires { ⌜ ReadyHole room n (hole .0) map (now table) (now solutions) used floor depth at ⌝ }
+    ensures { λ r. ⌜ WalksHole room n (hole .0) map (now (table .entry)) (now (solutions .entry)) used floor depth at (now (table .exit)) (now (solutions .exit)) r ⌝ }
 {
     let occ = read(table, at);
+    if hole.0 == NONE {
+        let kept = renamings(table, map, depth, occ.b);
+        return push_occurrence(table, n, used, room, Hole(occ.a), kept, false);
+    }
     if occ.a == hole.0 {
         return Walked::Failed(Failure::Occurs);
     }
@@ -330,27 +286,23 @@ fn walk_hole(
     walked
 }
 
-// The walk of a side or of an argument: an occurrence takes no walk of a term.
-fn walk_side(
+// A copy of a solution, its context variables renamed to the arguments of the occurrence.
+pub fn copy_solution(
     table: &mut [u32],
     solutions: &mut [u32],
     n: u32,
     used: u32,
     room: u32,
-    hole: Hole,
-    floor: u32,
-    map: Map,
-    depth: u32,
     at: u32,
+    solution: u32,
 ) -> Walked
-    requires { ⌜ ReadyT room n (hole .0) map (now table) (now solutions) used floor depth at ⌝ }
-    ensures { λ r. ⌜ WalksT room n (hole .0) map (now (table .entry)) (now (solutions .entry)) used floor depth at (now (table .exit)) (now (solutions .exit)) r ⌝ }
+    requires { ⌜ Copying room n (now table) (now solutions) used at solution ⌝ }
+    ensures { λ r. ⌜ CopiesSolution room n (now (table .entry)) (now (solutions .entry)) used at solution (now (table .exit)) (now (solutions .exit)) r ⌝ }
 {
-    let rec = read(table, at);
-    if rec.tag == HA {
-        return walk_hole(table, solutions, n, used, room, hole, floor, map, depth, at);
-    }
-    walk_term(table, solutions, n, used, room, hole, floor, map, depth, at)
+    let occ = read(table, at);
+    let map = arguments(table, occ.b);
+    let none = Hole(NONE);
+    walk_term(table, solutions, n, used, room, none, 1, map, 0, solution)
 }
 
 // What was written becomes the hole's solution, or the failure.
@@ -384,6 +336,6 @@ pub fn assign(
     let occ = read(table, left);
     let hole = Hole(occ.a);
     let map = arguments(table, occ.b);
-    let walked = walk_side(table, solutions, n, used, room, hole, 0, map, 0, right);
+    let walked = walk_term(table, solutions, n, used, room, hole, 0, map, 0, right);
     then_record(solutions, hole, walked)
 }

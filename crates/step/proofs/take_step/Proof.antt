@@ -5,7 +5,7 @@ use Rattle.step.proofs.take_step.Statement.{statement}
 use Rattle.step.proofs.take_step.Tie as tie
 use Rattle.step.proofs.take_step.Reads as reads
 use Rattle.step.proofs.take_step.Lts as lts
-use Rattle.copy.proofs.expand.Reads as expand-reads
+use Rattle.step.proofs.expand.Reads as expand-reads
 use Rattle.step.proofs.then_right.Reads as then-right-reads
 
 pub take-step-spec : {M : Type 1} → statement M

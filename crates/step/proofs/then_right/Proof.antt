@@ -5,7 +5,7 @@ use Rattle.step.proofs.then_right.Statement.{statement}
 use Rattle.step.proofs.then_right.Tie as tie
 use Rattle.step.proofs.then_right.Reads as reads
 use Rattle.step.proofs.then_right.Lts as lts
-use Rattle.copy.proofs.expand.Reads as expand-reads
+use Rattle.step.proofs.expand.Reads as expand-reads
 use Rattle.step.proofs.then_meet.Reads as then-meet-reads
 
 pub then-right-spec : {M : Type 1} → statement M

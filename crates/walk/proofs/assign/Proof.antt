@@ -8,7 +8,7 @@ use Rattle.walk.proofs.assign.Lts as lts
 use Rattle.places.proofs.arguments.Reads as arguments-reads
 use Rattle.table.proofs.read.Reads as read-reads
 use Rattle.walk.proofs.then_record.Reads as then-record-reads
-use Rattle.walk.proofs.walk_side.Reads as walk-side-reads
+use Rattle.walk.proofs.walk_term.Reads as walk-term-reads
 
 pub assign-spec : {M : Type 1} → statement M
 assign-spec =

@@ -1,0 +1,79 @@
+-- After an argument was walked: the rest of the list is as ready as it was.
+use Prim.Native.Nat.{ℕ, suc, _+_, _≤_}
+use mathlib.Core.Path.{_≡_}
+use mathlib.Core.List.{List}
+use native.Mathlib.Omega.{arith}
+use native.Mathlib.Nat.{le-refl}
+use lib.ListN.{length}
+use borrow.Author.Tests.{ne-eqb}
+use Rattle.table.specs.declared.Record.{Record}
+use Rattle.table.specs.Reading.{IsRecord}
+use Rattle.places.specs.declared.Map.{Map}
+use Rattle.rules.specs.Words.{NONE, fieldB, elements}
+use Rattle.rules.specs.Store.{Store, goes}
+use Rattle.laws.specs.Lists.{size, elements-kept}
+use Rattle.invariants.specs.Floor.{Fine, Ext, Grown}
+use Rattle.invariants.specs.Grow.{args-kept}
+use Rattle.invariants.specs.Rise.{reach}
+use Rattle.invariants.specs.Keep.{kept}
+use Rattle.invariants.specs.Copy.{Nobody, copy-grows}
+use Rattle.promise.specs.WalkKnown.{WalkAllKnown, walk-rest}
+use Rattle.promise.specs.CopyKnown.{copied-rest}
+use Rattle.store.specs.Said.{store}
+use Rattle.rewrite.specs.Renamed.{full-place}
+use Rattle.walk.specs.Walks.{mapAt, writer, copies, walks}
+use Rattle.walk.specs.Ready.{Led, copying, solving, led-part, ReadyList}
+use Rattle.walk.specs.First.{first-parts, first-lower}
+
+-- the store is fine again, and what was written stays
+record Later (R n : ℕ) (home : ℕ → ℕ) (s s₁ : Store) : Type 0 where
+  pub home₁ : ℕ → ℕ
+  pub ext : Ext Nobody home s home₁ s₁
+  pub fine : Fine R n home₁ s₁
+
+later : {barred : ℕ → Type 0} {Q : (ℕ → ℕ) → Store → ℕ → Type 0} {R n : ℕ} {home : ℕ → ℕ} {s s₁ : Store} {y : ℕ} → Grown barred Q R n home s s₁ y → Later R n home s s₁
+later g = record { home₁ = g .home₁; ext = record { grown = g .ext .grown; kept = g .ext .kept; labels = g .ext .labels; none = λ q a b t z. z }; fine = g .fine }
+
+module _ {R n u : ℕ} {m : Map} {ws ss : List ℕ} {used F d l : ℕ} (h : ReadyList R n u m ws ss used F d l) (ne : l ≡ NONE → ⊥) (w : Record) (e : IsRecord ws l w) (ws₁ ss₁ : List ℕ) (u₁ y : ℕ)
+    (g : writer R u (suc (reach R F (suc (w .a)))) (mapAt F m) d (w .a) (store ws ss used) ≡ goes (store ws₁ ss₁ u₁) y) where
+  abbrev fuel : ℕ
+  fuel = suc (reach R F (suc (w .a)))
+
+  -- by what is done: a copy, or the walk for hole u
+  went : Later R n (h .home) (store ws ss used) (store ws₁ ss₁ u₁) × WalkAllKnown R (store ws₁ ss₁ u₁) (h .scope) d (w .b)
+  went = go (h .on .led)
+    where
+      go : Led R u m used F (h .on .top + d) (size l) → Later R n (h .home) (store ws ss used) (store ws₁ ss₁ u₁) × WalkAllKnown R (store ws₁ ss₁ u₁) (h .scope) d (w .b)
+      go (copying z a full fi) =
+          let lo = first-lower h ne w e .0 in
+          let p = first-parts h ne w e .0 in
+          let i = h .within a in
+          let c = rw (copies R u fuel z) at g in (
+            later (rw c at (copy-grows R n (h .on .top) fuel (mapAt F m) d (w .a) (store ws ss used) (h .home) (h .on .fine) (record { below = p .below; term = p .term; up = omega arith }) (h .on .low) (omega arith) (omega arith))),
+            rw (e .b-is) (copied-rest ne (h .known) (mapAt F m) (rw (ne-eqb F 0 a) (λ v lt. full-place m d v (h .on .whole) full (omega arith))) _ (rw (e .a-is) at c)),
+          )
+      go (solving z lt fi) =
+          let lo = first-lower h ne w e .0 in
+          let c = rw (walks R u fuel z) at g in (
+            later (rw c at (kept R n u used F (h .on .top) fuel (mapAt F m) d (w .a) (store ws ss used) (h .home) (h .on .fine) (le-refl _) lt (first-parts h ne w e .0) (h .on .low) (omega arith) (omega arith))),
+            rw (e .b-is) (walk-rest ne (h .known) _ u (mapAt F m) (rw (e .a-is) at c)),
+          )
+
+  pub after-same : elements ws₁ (w .b) ≡ elements ws (w .b)
+  after-same = elements-kept ws ws₁ used (w .b) (went .0 .ext .kept) (λ c lt five. h .on .fine .good c lt .cell five) (first-parts h ne w e .1 .here)
+
+  pub after-ready : (k : ℕ) → k + length (elements ws (w .b)) ≤ 16 → ReadyList R n u m ws₁ ss₁ u₁ F d (w .b)
+  after-ready k few =
+      let t = went in
+      let gr = t .0 .ext .grown in
+      let a = first-lower h ne w e .1 in
+      let fe : k + length (elements ws₁ (w .b)) ≤ 16 = rw after-same few in
+      record {
+        home = t .0 .home₁;
+        is = args-kept _ _ _ _ _ _ _ _ _ (h .on .fine) (t .0 .ext) (first-parts h ne w e .1);
+        few = omega arith;
+        on = record { fine = t .0 .fine; whole = h .on .whole; top = h .on .top; low = h .on .low; led = led-part u₁ _ _ (h .on .led) gr (omega arith) };
+        scope = h .scope;
+        within = h .within;
+        known = t .1;
+      }

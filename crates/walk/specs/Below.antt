@@ -1,0 +1,32 @@
+-- What the walk of a term asks and says below its lambdas.
+use Prim.Native.Nat.{ℕ, suc, _-_, _*_, _+_, _<_}
+use mathlib.Core.Path.{_≡_}
+use mathlib.Core.List.{List}
+use native.Mathlib.Omega.{arith}
+use Rattle.store.specs.declared.Walked.{Walked}
+use Rattle.table.specs.declared.Record.{Record}
+use Rattle.places.specs.declared.Map.{Map}
+use Rattle.invariants.specs.Rise.{reach}
+use Rattle.rewrite.specs.Lambdas.{Under}
+use Rattle.rewrite.specs.Below.{Opens, Below, below-gives}
+use Rattle.walk.specs.Walks.{Gives, WalksTerm, walk-lambda}
+use Rattle.walk.specs.Ready.{ReadyTerm, to-read, to-depth, body-less, to-body}
+
+module _ {R n u : ℕ} {m : Map} {ws ss : List ℕ} {used F : ℕ} where
+  pub opens : Opens (ReadyTerm R n u m ws ss used F) (λ s. Gives R u m ws s used F) R ws ws
+  opens =
+      record {
+        depth = λ d r h. to-depth h;
+        read = λ d r h. to-read h;
+        room = λ d r h. h .on .fine .room;
+        less = λ d r w e t h. body-less w e t h;
+        body = λ d r w e t h. to-body w e t h;
+        over = λ d r w e t k s o g. walk-lambda R n u m ws s used F d r w e o t (omega arith) g;
+      }
+
+  module _ {d₀ r₀ d r : ℕ} {w : Record} (h : Below (ReadyTerm R n u m ws ss used F) (λ s. Gives R u m ws s used F) R ws ws d₀ r₀ d r w) where
+    pub fall-body : (t : ℕ) → 3 * reach R F (suc r₀) + 1 ≡ t → 3 * reach R F (suc r) < t
+    fall-body t z = let le = h .less in omega arith
+
+    pub below-ends : (ws₁ ss₁ : List ℕ) (x : Walked) (ws₂ : List ℕ) (y : Walked) → WalksTerm R n u m ws ss used F d r ws₁ ss₁ x → Under n R (d - d₀) ws₁ x ws₂ y → WalksTerm R n u m ws ss used F d₀ r₀ ws₂ ss₁ y
+    below-ends ws₁ ss₁ x ws₂ y p q = record { run = below-gives h n ss ss₁ ws₁ x ws₂ y (p .run) q; grown = q .grown }
