@@ -40,7 +40,7 @@ pub mod Ending  -- the machine's end
 pub mod Solving  -- what the answers of solving mean
 pub mod Order  -- the order of the equations that come last does not matter
 pub mod Showing  -- what is written of a hole reads as the run's filling of it
-pub mod ShowKnown  -- what is known of a term that is shown, and of a hole
+pub mod ShowKnown  -- that every position of a shown term's context has a place, and what is known of a hole
 pub mod Printing  -- what is printed of a record is its tree's notation
 pub mod Shown  -- what show's answer 0 means
 pub mod Theorems  -- DEMAND 3 PROVED

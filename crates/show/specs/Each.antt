@@ -19,7 +19,7 @@ use Rattle.rules.specs.Show.{showTerm}
 use Rattle.laws.specs.Lists.{size, elements-none}
 use Rattle.invariants.specs.Floor.{Sub, Args}
 use Rattle.invariants.specs.Rise.{reach}
-use Rattle.promise.specs.ShowKnown.{show-first, show-rest}
+use Rattle.promise.specs.WalkKnown.{walk-first, walk-second}
 use Rattle.store.specs.Said.{store, shown, Does}
 use Rattle.places.specs.Maps.{mapOf}
 use Rattle.narrow.specs.Each.{writeRest, writes-all, rest-end, rest-stops, rest-goes}
@@ -89,7 +89,7 @@ module _ (O : ℕ) (m : Map) (ws ss os₀ : List ℕ) (used₀ F d l₀ : ℕ) w
         turn-head =
             let r = h .ready in
             let a = lower .0 in
-            record { table = r .table; is = parts .0; on = on-part d (suc (w .a)) os (r .on) refl (omega arith); known = rw (e .a-is) (show-first ne (r .known)) }
+            record { table = r .table; is = parts .0; on = on-part d (suc (w .a)) os (r .on) refl (omega arith); scope = r .scope; full = r .full; known = rw (e .a-is) (walk-first ne (r .known)) }
 
         module _ (os₁ : List ℕ) (x : Walked) (p : ShowsT O m ws ss os used F d (w .a) os₁ x) where
           pub turn-stops : (e₁ : Failure) → x ≡ Failed e₁ → ShowsL O m ws ss os₀ used₀ F d l₀ os₁ (Failed e₁)
@@ -117,7 +117,7 @@ module _ (O : ℕ) (m : Map) (ws ss os₀ : List ℕ) (used₀ F d l₀ : ℕ) w
                 array = simp length-set nt;
                 few = few;
                 less = omega arith;
-                ready = record { table = r .table; is = parts .1; few = omega arith; on = on-part d (size (w .b)) os₁ (r .on) lo (omega arith); known = rw (e .b-is) (show-rest ne (r .known)) };
+                ready = record { table = r .table; is = parts .1; few = omega arith; on = on-part d (size (w .b)) os₁ (r .on) lo (omega arith); scope = r .scope; full = r .full; known = rw (e .b-is) (walk-second ne (r .known)) };
                 leads = λ f hf. h .leads f hf ∙ rw (is-cell, tk)
                     (rest-goes (showTerm f O ws) O (mapOf false m) d (take k noted) (w .a) (elements ws (w .b)) (store os ss used) (store os₁ ss u₁) y (p .run f (omega arith) ∙ ap (shown os₁ ss) q));
               }
