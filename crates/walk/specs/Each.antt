@@ -1,11 +1,10 @@
 -- What the walk of an argument list asks, argument by argument.
 use Prim.Native.Nat.{ℕ, suc, _+_, _*_, _<_, _≤_}
-use mathlib.Core.Path.{_≡_, refl, sym, ap, _∙_}
-use mathlib.Core.List.{List, [], _∷_, _++_}
+use mathlib.Core.Path.{_≡_}
+use mathlib.Core.List.{List, _∷_}
 use native.Mathlib.Omega.{arith}
 use native.Mathlib.Nat.{le-refl}
-use lib.ListN.{length, set, take, length-set}
-use lib.Seq.{take-suc-set}
+use lib.ListN.{length, set, take}
 use Rattle.rules.specs.declared.Failure.{Failure}
 use Rattle.store.specs.declared.Walked.{Walked}
 use Rattle.store.specs.declared.Walked.the-variants.{Root, Failed}
@@ -13,161 +12,83 @@ use Rattle.table.specs.declared.Record.{Record}
 use Rattle.table.specs.Reading.{IsRecord}
 use Rattle.places.specs.declared.Map.{Map}
 use Rattle.rules.specs.Words.{NONE, elements}
-use Rattle.rules.specs.Store.{goes, pushCells}
-use Rattle.rules.specs.Rewrite.{writeAll}
+use Rattle.rules.specs.Store.{Store, pushCells}
 use Rattle.rules.specs.Walk.{walk}
-use Rattle.laws.specs.Lists.{size, elements-none, elements-kept}
-use Rattle.invariants.specs.Floor.{Sub, Args, Grown, Rooted}
+use Rattle.laws.specs.Lists.{size, elements-kept}
+use Rattle.invariants.specs.Floor.{Grown, Rooted}
 use Rattle.invariants.specs.Grow.{args-kept}
 use Rattle.invariants.specs.Rise.{reach}
 use Rattle.invariants.specs.Keep.{kept}
 use Rattle.promise.specs.WalkKnown.{walk-rest}
-use Rattle.store.specs.Said.{store, shown, since-failed, Does}
-use Rattle.narrow.specs.Cells.{Celling}
-use Rattle.narrow.specs.Each.{writeRest, writes-all, rest-end, rest-stops, rest-goes}
-use Rattle.rewrite.specs.Parts.{room-at}
+use Rattle.store.specs.Said.{since-failed, Does}
+use Rattle.rewrite.specs.Each.{Splits, Turn as Loop, turn-first as first, turn-ends as ends, turn-read as read, turn-head as head, turn-lower as lower, turn-stops as stops, turn-next as next}
+pub use Rattle.rewrite.specs.Each.{turn-kept, turn-held, turn-holds, turn-array, turn-cells, turn-less, room-left}
 use Rattle.walk.specs.Walks.{mapAt, WalksT, WalksL}
 use Rattle.walk.specs.Ready.{ReadyT, ReadyL}
-use Rattle.walk.specs.First.{first-read, first-parts, first-lower, first-is, first-ready}
+use Rattle.walk.specs.First.{first-ready}
+
+module _ (R n u : ℕ) (m : Map) (F d : ℕ) where
+  abbrev Term : Store → ℕ → Type 0
+  Term s r = ReadyT R n u m (s .words) (s .solutions) (s .used) F d r
+
+  abbrev All : Store → ℕ → Type 0
+  All s l = ReadyL R n u m (s .words) (s .solutions) (s .used) F d l
+
+  splits : Splits (λ f. walk f R u) (λ s. s .words) Term All R n R F (mapAt F m) d
+  splits =
+      record {
+        room = λ s l h. h .on .fine .room;
+        since = λ s l h. h .on .fine .since;
+        few = λ s l h. h .few;
+        inside = λ s l h. record { R = R; n = n; home = h .home; ss = s .solutions; used = s .used; fine = h .on .fine; is = h .is };
+        first = λ s l h ne w e c. first-ready h ne w e;
+        next = λ s l h ne w e c s₁ y g lw.
+            let fi = h .on .fits in
+            let lo = c .lower in
+            let f = suc (reach R F (suc (w .a))) in
+            let z : Grown (λ v. v ≡ u) (Rooted (s .used)) R n (h .home) s s₁ y = rw g at (kept R n u (s .used) F (h .on .top) f (mapAt F m) d (w .a) s (h .home) (h .on .fine) (le-refl _) (h .on .hole) (c .element) (h .on .low) (omega arith) (omega arith)) in
+            let el = elements-kept (s .words) (s₁ .words) (s .used) (w .b) (z .ext .kept) (λ i lt five. h .on .fine .good i lt .cell five) (c .rest .here) in
+            let k : length (w .a ∷ elements (s .words) (w .b)) ≤ 16 = rw (c .list) at (h .few) in
+            let gr = z .ext .grown in
+            let ho = h .on .hole in (
+              record {
+                home = z .home₁;
+                is = args-kept _ _ _ _ _ _ _ _ _ (h .on .fine) (z .ext) (c .rest);
+                few = rw el (omega arith);
+                on = record { fine = z .fine; hole = omega arith; whole = h .on .whole; top = h .on .top; low = h .on .low; fits = omega arith };
+                scope = h .scope;
+                within = h .within;
+                known = rw (e .b-is) (walk-rest ne (h .known) _ u (mapAt F m) (rw (e .a-is) at g));
+              },
+              el,
+            );
+      }
 
 -- after k arguments: what they were written as, and what is left
-pub record Turn (R n u : ℕ) (m : Map) (ws₀ ss₀ : List ℕ) (used₀ F d l₀ : ℕ) (ws ss noted : List ℕ) (k used l : ℕ) : Type 0 where
-  pub same : length ws ≡ length ws₀
-  pub held : length ss ≡ length ss₀
-  pub array : length noted ≡ 16
-  pub few : k + length (elements ws l) ≤ 16
-  pub less : size l ≤ size l₀
-  pub ready : ReadyL R n u m ws ss used F d l
-  pub leads : (f : ℕ) → reach R F (size l₀) ≤ f → writeAll (walk f R u) R (mapAt F m) d (elements ws₀ l₀) (store ws₀ ss₀ used₀)
-      ≡ writeRest (walk f R u) R (mapAt F m) d (take k noted) (elements ws l) (store ws ss used)
+abbrev pub Turn : ℕ → ℕ → ℕ → Map → List ℕ → List ℕ → ℕ → ℕ → ℕ → ℕ → List ℕ → List ℕ → List ℕ → ℕ → ℕ → ℕ → Type 0
+Turn R n u m ws₀ ss₀ used₀ F d l₀ ws ss noted k used l = Loop (λ f. walk f R u) (λ s. s .words) (Term R n u m F d) (All R n u m F d) R n R F (mapAt F m) d ws₀ ss₀ used₀ l₀ ws ss noted k used l
 
 module _ (R n u : ℕ) (m : Map) (ws₀ ss₀ : List ℕ) (used₀ F d l₀ : ℕ) where
   pub turn-first : (noted : List ℕ) → length noted ≡ 16 → ReadyL R n u m ws₀ ss₀ used₀ F d l₀ → Turn R n u m ws₀ ss₀ used₀ F d l₀ ws₀ ss₀ noted 0 used₀ l₀
-  turn-first noted z h =
-      let f = h .few in
-      record {
-        same = refl;
-        held = refl;
-        array = z;
-        few = omega arith;
-        less = omega arith;
-        ready = h;
-        leads = λ f hf. writes-all (walk f R u) R (mapAt F m) d (elements ws₀ l₀) (store ws₀ ss₀ used₀);
-      }
+  turn-first = first ws₀ ss₀ used₀ l₀ (splits R n u m F d)
 
   module _ (ws ss noted : List ℕ) (k used l : ℕ) (h : Turn R n u m ws₀ ss₀ used₀ F d l₀ ws ss noted k used l) where
-    pub turn-kept : (ws₁ : List ℕ) → length ws₁ ≡ length ws → length ws₁ ≡ length ws₀
-    turn-kept ws₁ e = e ∙ h .same
-
-    pub turn-held : (ss₁ : List ℕ) → length ss₁ ≡ length ss → length ss₁ ≡ length ss₀
-    turn-held ss₁ e = e ∙ h .held
-
-    pub turn-holds : length ss ≡ length ss₀
-    turn-holds = h .held
-
-    pub turn-array : 16 ≡ length noted
-    turn-array = sym (h .array)
-
-    -- nothing is left
-    pub turn-cells : Celling ws n used R noted k
-    turn-cells = let f = h .few in let z = h .array in record { room = h .ready .on .fine .room; since = h .ready .on .fine .since; few = omega arith }
-
     pub turn-ends : (ws₁ : List ℕ) (x : Walked) → l ≡ NONE → Does n (pushCells R (take k noted)) ws used ws₁ x → WalksL R n u m ws₀ ss₀ used₀ F d l₀ ws₁ ss x
-    turn-ends ws₁ x e p =
-        record {
-          run = λ f hf. h .leads f hf ∙ rw (elements-none ws l e) (rest-end (walk f R u) R (mapAt F m) d (take k noted) (store ws ss used) ∙ p .run ss);
-          grown = p .grown;
-        }
+    turn-ends ws₁ x e p = record { run = ends h ws₁ x e p; grown = p .grown }
 
-    -- a cell is left
-    module _ (ne : l ≡ NONE → ⊥) where
-      pub turn-read : 4 * l + 3 < length ws
-      turn-read = first-read (h .ready) ne
+    pub turn-read : (l ≡ NONE → ⊥) → 4 * l + 3 < length ws
+    turn-read ne = read h ne
 
-      module _ (w : Record) (e : IsRecord ws l w) where
-        parts : Sub ws (h .ready .home) F used (w .a) × Args ws (h .ready .home) F used (w .b)
-        parts = first-parts (h .ready) ne w e
+    module _ (ne : l ≡ NONE → ⊥) (w : Record) (e : IsRecord ws l w) where
+      pub turn-falls : (t : ℕ) → 4 * reach R F (size l₀) ≡ t → 4 * reach R F (suc (w .a)) + 3 < t
+      turn-falls t z = let a = lower h ne w e in omega arith
 
-        lower : (suc (w .a) < size l) × (size (w .b) < size l)
-        lower = first-lower (h .ready) ne w e
+      pub turn-head : ReadyT R n u m ws ss used F d (w .a)
+      turn-head = head h ne w e
 
-        is-cell : elements ws l ≡ w .a ∷ elements ws (w .b)
-        is-cell = first-is (h .ready) ne w e
+      module _ (ws₁ ss₁ : List ℕ) (x : Walked) (p : WalksT R n u m ws ss used F d (w .a) ws₁ ss₁ x) where
+        pub turn-stops : (e₁ : Failure) → x ≡ Failed e₁ → WalksL R n u m ws₀ ss₀ used₀ F d l₀ ws₁ ss₁ (Failed e₁)
+        turn-stops e₁ q = record { run = stops h ne w e ws₁ ss₁ x (p .run) e₁ q; grown = since-failed _ _ }
 
-        few : (k + 1) + length (elements ws (w .b)) ≤ 16
-        few = let r = h .ready in room-at R n (r .home) ws ss used F l (r .on .fine) (r .is) ne w e k (h .few)
-
-        pub room-left : k < 16
-        room-left = let f = few in omega arith
-
-        pub turn-falls : (t : ℕ) → 4 * reach R F (size l₀) ≡ t → 4 * reach R F (suc (w .a)) + 3 < t
-        turn-falls t z = let a = lower .0 in let b = h .less in omega arith
-
-        pub turn-less : size (w .b) < size l
-        turn-less = lower .1
-
-        pub turn-head : ReadyT R n u m ws ss used F d (w .a)
-        turn-head = first-ready (h .ready) ne w e
-
-        module _ (ws₁ ss₁ : List ℕ) (x : Walked) (p : WalksT R n u m ws ss used F d (w .a) ws₁ ss₁ x) where
-          pub turn-stops : (e₁ : Failure) → x ≡ Failed e₁ → WalksL R n u m ws₀ ss₀ used₀ F d l₀ ws₁ ss₁ (Failed e₁)
-          turn-stops e₁ q =
-              let a = lower .0 in
-              let b = h .less in
-              record {
-                run = λ f hf. h .leads f hf ∙ rw is-cell (rest-stops (walk f R u) R (mapAt F m) d (take k noted) (w .a) (elements ws (w .b)) (store ws ss used) ws₁ ss₁ e₁ (p .run f (omega arith) ∙ ap (shown ws₁ ss₁) q));
-                grown = since-failed _ _;
-              }
-
-          module _ (y u₁ : ℕ) (q : x ≡ Root y u₁) where
-            gives : walk (suc (reach R F (suc (w .a)))) R u (mapAt F m) d (w .a) (store ws ss used) ≡ goes (store ws₁ ss₁ u₁) y
-            gives = p .run (suc (reach R F (suc (w .a)))) (omega arith) ∙ ap (shown ws₁ ss₁) q
-
-            grown : Grown (λ v. v ≡ u) (Rooted used) R n (h .ready .home) (store ws ss used) (store ws₁ ss₁ u₁) y
-            grown =
-                let r = h .ready in
-                let fi = r .on .fits in
-                let lo = lower .0 in
-                rw gives at (kept R n u used F (r .on .top) (suc (reach R F (suc (w .a)))) (mapAt F m) d (w .a) (store ws ss used) (r .home) (r .on .fine) (le-refl _) (r .on .hole) (parts .0) (r .on .low) (omega arith) (omega arith))
-
-            el : elements ws₁ (w .b) ≡ elements ws (w .b)
-            el = let r = h .ready in elements-kept ws ws₁ used (w .b) (grown .ext .kept) (λ c lt five. r .on .fine .good c lt .cell five) (parts .1 .here)
-
-            rest : ReadyL R n u m ws₁ ss₁ u₁ F d (w .b)
-            rest =
-                let r = h .ready in
-                let g = grown in
-                let gr = g .ext .grown in
-                let ho = r .on .hole in
-                let f = r .on .fits in
-                let a = lower .1 in
-                let fe : (k + 1) + length (elements ws₁ (w .b)) ≤ 16 = rw el few in
-                record {
-                  home = g .home₁;
-                  is = args-kept _ _ _ _ _ _ _ _ _ (r .on .fine) (g .ext) (parts .1);
-                  few = omega arith;
-                  on = record { fine = g .fine; hole = omega arith; whole = r .on .whole; top = r .on .top; low = r .on .low; fits = omega arith };
-                  scope = r .scope;
-                  within = r .within;
-                  known = rw (e .b-is) (walk-rest ne (r .known) _ u (mapAt F m) (rw (e .a-is) at gives));
-                }
-
-            pub turn-next : length ws₁ ≡ length ws → length ss₁ ≡ length ss → Turn R n u m ws₀ ss₀ used₀ F d l₀ ws₁ ss₁ (set noted k y) (k + 1) u₁ (w .b)
-            turn-next lw ls =
-                let a = lower .0 in
-                let b = lower .1 in
-                let c = h .less in
-                let nt = h .array in
-                let rl = room-left in
-                let ke : k + 1 ≡ suc k = omega arith in
-                let tk : take (k + 1) (set noted k y) ≡ take k noted ++ (y ∷ []) = rw ke (take-suc-set noted k y (omega arith)) in
-                record {
-                  same = lw ∙ h .same;
-                  held = ls ∙ h .held;
-                  array = simp length-set nt;
-                  few = rw el few;
-                  less = omega arith;
-                  ready = rest;
-                  leads = λ f hf. h .leads f hf ∙ rw (is-cell, tk, el)
-                      (rest-goes (walk f R u) R (mapAt F m) d (take k noted) (w .a) (elements ws (w .b)) (store ws ss used) (store ws₁ ss₁ u₁) y (p .run f (omega arith) ∙ ap (shown ws₁ ss₁) q));
-                }
+        pub turn-next : (y u₁ : ℕ) → x ≡ Root y u₁ → length ws₁ ≡ length ws → length ss₁ ≡ length ss → Turn R n u m ws₀ ss₀ used₀ F d l₀ ws₁ ss₁ (set noted k y) (k + 1) u₁ (w .b)
+        turn-next y u₁ q lw ls = next h ne w e ws₁ ss₁ x (p .run) y u₁ q lw ls

@@ -12,7 +12,8 @@ use Rattle.show.specs.Shows.{Gives, since-none, show-leaf, hole-written}
 use Rattle.show.specs.Ready.{ReadyT, to-read, to-read-b, to-above, to-push, to-then, to-names, fall-hole, to-hole, shows-occurrence, to-name, head-kept, fall-args, to-args, shows-rigid, to-solution, to-write, fall-solution, to-term, shows-solution}
 use Rattle.rewrite.specs.Below.{Below, below-first, below-depth, below-less, below-read, below-next, below-plain, below-then}
 use Rattle.show.specs.Below.{opens, below-ends}
-use Rattle.show.specs.Each.{Turn, turn-first, turn-kept, turn-array, turn-cells, turn-ends, turn-read, turn-falls, turn-less, turn-head, room-left, turn-stops, turn-next}
+use Rattle.rewrite.specs.Each.{turn-kept, turn-array, turn-cells, turn-less, room-left}
+use Rattle.show.specs.Each.{Turn, turn-first, turn-ends, turn-read, turn-falls, turn-head, turn-stops, turn-next}
 use Prim.Native.Nat.{ℕ, _+_, _*_, _<_}
 use borrow.Fn.Kinds.{In}
 use borrow.Fn.PlainCycle.{Measures, is, falls, and}
