@@ -30,7 +30,8 @@ use Rattle.rewrite.specs.Renamed.{Renaming}
 use Rattle.rewrite.specs.Renamings.{Renamings}
 use Rattle.rewrite.specs.Levels.{Headed, of-constant}
 use Rattle.rewrite.specs.Parts.{term-read, body-at, args-at, size-args, few-at, counts-at}
-use Rattle.show.specs.Shows.{ShowsT, ShowsL, ShowsH, show-rigid, show-occurrence, hole-expanded}
+use Rattle.rewrite.specs.Writes.{writes-rigid}
+use Rattle.show.specs.Shows.{unrolls, ShowsT, ShowsL, ShowsH, show-occurrence, hole-expanded}
 
 -- the table that is read: of a final store of the machine
 pub record Final (ws ss : List ℕ) : Type 0 where
@@ -184,7 +185,7 @@ module _ {O : ℕ} {m : Map} {ws ss os : List ℕ} {F d r : ℕ} where
 
       pub shows-rigid : (v : ℕ) (os₁ : List ℕ) (used : ℕ) (x : Walked) (os₂ : List ℕ) (y : Walked) → Headed (mapOf false m) d w v
           → ShowsL O m ws ss os used F d (w .b) os₁ x → Then 0 (over O (w .tag) v) os₁ x os₂ y → ShowsT O m ws ss os used F d r os₂ y
-      shows-rigid v os₁ used x os₂ y t p q = show-rigid O m ws ss os used F d r w e v os₁ x os₂ y t (let s = small in omega arith) p q
+      shows-rigid v os₁ used x os₂ y t p q = writes-rigid (unrolls O ws) 4096 0 F (mapOf false m) d r os ss used w e v os₁ ss x os₂ y t small p q
 
     -- an occurrence
     module _ (k : w .tag ≡ 9) where

@@ -20,12 +20,12 @@ use Rattle.invariants.specs.Grow.{args-kept}
 use Rattle.invariants.specs.Rise.{reach}
 use Rattle.invariants.specs.Keep.{kept}
 use Rattle.promise.specs.WalkKnown.{walk-rest}
-use Rattle.store.specs.Said.{since-failed, Does}
+use Rattle.store.specs.Said.{Does}
 use Rattle.rewrite.specs.Each.{Splits, Turn as Loop, turn-first as first, turn-ends as ends, turn-read as read, turn-head as head, turn-lower as lower, turn-stops as stops, turn-next as next}
 pub use Rattle.rewrite.specs.Each.{turn-kept, turn-held, turn-holds, turn-array, turn-cells, turn-less, room-left}
 use Rattle.walk.specs.Walks.{mapAt, WalksT, WalksL}
 use Rattle.walk.specs.Ready.{ReadyT, ReadyL}
-use Rattle.walk.specs.First.{first-ready}
+use Rattle.walk.specs.First.{first-read, first-parts, first-lower, first-is, first-ready}
 
 module _ (R n u : ℕ) (m : Map) (F d : ℕ) where
   abbrev Term : Store → ℕ → Type 0
@@ -34,26 +34,27 @@ module _ (R n u : ℕ) (m : Map) (F d : ℕ) where
   abbrev All : Store → ℕ → Type 0
   All s l = ReadyL R n u m (s .words) (s .solutions) (s .used) F d l
 
-  splits : Splits (λ f. walk f R u) (λ s. s .words) Term All R n R F (mapAt F m) d
+  splits : Splits (λ f. walk f R u) (λ s. s .words) Term All R R n F (mapAt F m) d
   splits =
       record {
         room = λ s l h. h .on .fine .room;
         since = λ s l h. h .on .fine .since;
         few = λ s l h. h .few;
-        inside = λ s l h. record { R = R; n = n; home = h .home; ss = s .solutions; used = s .used; fine = h .on .fine; is = h .is };
+        read = λ s l h. first-read h;
+        cell = λ s l h ne w e. record { list = first-is h ne w e; lower = first-lower h ne w e };
         first = λ s l h ne w e c. first-ready h ne w e;
-        next = λ s l h ne w e c s₁ y g lw.
+        rest = λ s l h ne w e c s₁ y g lw.
             let fi = h .on .fits in
             let lo = c .lower in
-            let f = suc (reach R F (suc (w .a))) in
-            let z : Grown (λ v. v ≡ u) (Rooted (s .used)) R n (h .home) s s₁ y = rw g at (kept R n u (s .used) F (h .on .top) f (mapAt F m) d (w .a) s (h .home) (h .on .fine) (le-refl _) (h .on .hole) (c .element) (h .on .low) (omega arith) (omega arith)) in
-            let el = elements-kept (s .words) (s₁ .words) (s .used) (w .b) (z .ext .kept) (λ i lt five. h .on .fine .good i lt .cell five) (c .rest .here) in
+            let p = first-parts h ne w e in
+            let z : Grown (λ v. v ≡ u) (Rooted (s .used)) R n (h .home) s s₁ y = rw g at (kept R n u (s .used) F (h .on .top) (suc (reach R F (suc (w .a)))) (mapAt F m) d (w .a) s (h .home) (h .on .fine) (le-refl _) (h .on .hole) (p .0) (h .on .low) (omega arith) (omega arith)) in
+            let el = elements-kept (s .words) (s₁ .words) (s .used) (w .b) (z .ext .kept) (λ i lt five. h .on .fine .good i lt .cell five) (p .1 .here) in
             let k : length (w .a ∷ elements (s .words) (w .b)) ≤ 16 = rw (c .list) at (h .few) in
             let gr = z .ext .grown in
             let ho = h .on .hole in (
               record {
                 home = z .home₁;
-                is = args-kept _ _ _ _ _ _ _ _ _ (h .on .fine) (z .ext) (c .rest);
+                is = args-kept _ _ _ _ _ _ _ _ _ (h .on .fine) (z .ext) (p .1);
                 few = rw el (omega arith);
                 on = record { fine = z .fine; hole = omega arith; whole = h .on .whole; top = h .on .top; low = h .on .low; fits = omega arith };
                 scope = h .scope;
@@ -66,29 +67,30 @@ module _ (R n u : ℕ) (m : Map) (F d : ℕ) where
 
 -- after k arguments: what they were written as, and what is left
 abbrev pub Turn : ℕ → ℕ → ℕ → Map → List ℕ → List ℕ → ℕ → ℕ → ℕ → ℕ → List ℕ → List ℕ → List ℕ → ℕ → ℕ → ℕ → Type 0
-Turn R n u m ws₀ ss₀ used₀ F d l₀ ws ss noted k used l = Loop (λ f. walk f R u) (λ s. s .words) (Term R n u m F d) (All R n u m F d) R n R F (mapAt F m) d ws₀ ss₀ used₀ l₀ ws ss noted k used l
+Turn R n u m ws₀ ss₀ used₀ F d l₀ ws ss noted k used l = Loop (λ f. walk f R u) (λ s. s .words) (Term R n u m F d) (All R n u m F d) R R n F (mapAt F m) d ws₀ ss₀ used₀ l₀ ws ss noted k used l
 
 module _ (R n u : ℕ) (m : Map) (ws₀ ss₀ : List ℕ) (used₀ F d l₀ : ℕ) where
   pub turn-first : (noted : List ℕ) → length noted ≡ 16 → ReadyL R n u m ws₀ ss₀ used₀ F d l₀ → Turn R n u m ws₀ ss₀ used₀ F d l₀ ws₀ ss₀ noted 0 used₀ l₀
-  turn-first = first ws₀ ss₀ used₀ l₀ (splits R n u m F d)
+  turn-first = first (splits R n u m F d)
 
   module _ (ws ss noted : List ℕ) (k used l : ℕ) (h : Turn R n u m ws₀ ss₀ used₀ F d l₀ ws ss noted k used l) where
     pub turn-ends : (ws₁ : List ℕ) (x : Walked) → l ≡ NONE → Does n (pushCells R (take k noted)) ws used ws₁ x → WalksL R n u m ws₀ ss₀ used₀ F d l₀ ws₁ ss x
-    turn-ends ws₁ x e p = record { run = ends h ws₁ x e p; grown = p .grown }
+    turn-ends ws₁ x e p = let q = ends h ws₁ x e p in record { run = q .run; grown = q .grown }
 
-    pub turn-read : (l ≡ NONE → ⊥) → 4 * l + 3 < length ws
-    turn-read ne = read h ne
+    module _ (ne : l ≡ NONE → ⊥) where
+      pub turn-read : 4 * l + 3 < length ws
+      turn-read = read h ne
 
-    module _ (ne : l ≡ NONE → ⊥) (w : Record) (e : IsRecord ws l w) where
-      pub turn-falls : (t : ℕ) → 4 * reach R F (size l₀) ≡ t → 4 * reach R F (suc (w .a)) + 3 < t
-      turn-falls t z = let a = lower h ne w e in omega arith
+      module _ (w : Record) (e : IsRecord ws l w) where
+        pub turn-falls : (t : ℕ) → 4 * reach R F (size l₀) ≡ t → 4 * reach R F (suc (w .a)) + 3 < t
+        turn-falls t z = let a = lower h ne w e in omega arith
 
-      pub turn-head : ReadyT R n u m ws ss used F d (w .a)
-      turn-head = head h ne w e
+        pub turn-head : ReadyT R n u m ws ss used F d (w .a)
+        turn-head = head h ne w e
 
-      module _ (ws₁ ss₁ : List ℕ) (x : Walked) (p : WalksT R n u m ws ss used F d (w .a) ws₁ ss₁ x) where
-        pub turn-stops : (e₁ : Failure) → x ≡ Failed e₁ → WalksL R n u m ws₀ ss₀ used₀ F d l₀ ws₁ ss₁ (Failed e₁)
-        turn-stops e₁ q = record { run = stops h ne w e ws₁ ss₁ x (p .run) e₁ q; grown = since-failed _ _ }
+        module _ (ws₁ ss₁ : List ℕ) (x : Walked) (p : WalksT R n u m ws ss used F d (w .a) ws₁ ss₁ x) where
+          pub turn-stops : (e₁ : Failure) → x ≡ Failed e₁ → WalksL R n u m ws₀ ss₀ used₀ F d l₀ ws₁ ss₁ (Failed e₁)
+          turn-stops e₁ q = let z = stops h ne w e ws₁ ss₁ x (record { run = p .run; grown = p .grown }) e₁ q in record { run = z .run; grown = z .grown }
 
-        pub turn-next : (y u₁ : ℕ) → x ≡ Root y u₁ → length ws₁ ≡ length ws → length ss₁ ≡ length ss → Turn R n u m ws₀ ss₀ used₀ F d l₀ ws₁ ss₁ (set noted k y) (k + 1) u₁ (w .b)
-        turn-next y u₁ q lw ls = next h ne w e ws₁ ss₁ x (p .run) y u₁ q lw ls
+          pub turn-next : (y u₁ : ℕ) → x ≡ Root y u₁ → length ws₁ ≡ length ws → length ss₁ ≡ length ss → Turn R n u m ws₀ ss₀ used₀ F d l₀ ws₁ ss₁ (set noted k y) (k + 1) u₁ (w .b)
+          turn-next = next h ne w e ws₁ ss₁ x (record { run = p .run; grown = p .grown })
