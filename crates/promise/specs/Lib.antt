@@ -23,7 +23,7 @@ pub mod Meeting  -- steps 2 to 5: two sides meet
 pub mod Running  -- the machine runs
 pub mod Parts  -- the parts of a term that reads
 pub mod WalkKnown  -- what is known of a term that is walked
-pub mod CopyKnown  -- what is known of a list after its first argument was copied
+pub mod CopyKnown  -- that every position has a place where a term is copied or shown, and that a copy appends
 pub mod SideKnown  -- what is known of a side of a pair
 pub mod Readable  -- lists, types and holes of a sound table can be read
 pub mod Types  -- a type is one record
@@ -40,7 +40,7 @@ pub mod Ending  -- the machine's end
 pub mod Solving  -- what the answers of solving mean
 pub mod Order  -- the order of the equations that come last does not matter
 pub mod Showing  -- what is written of a hole reads as the run's filling of it
-pub mod ShowKnown  -- what is known of a term that is shown, and of a hole
+pub mod ShowKnown  -- what is known of a hole that is shown
 pub mod Printing  -- what is printed of a record is its tree's notation
 pub mod Shown  -- what show's answer 0 means
 pub mod Theorems  -- DEMAND 3 PROVED

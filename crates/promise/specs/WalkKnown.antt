@@ -10,7 +10,7 @@ use Rattle.rules.specs.Store.{Store, goes}
 use Rattle.rules.specs.Map.{Map}
 use Rattle.rules.specs.Walk.{walk}
 use Rattle.invariants.specs.Floor.{All}
-use Rattle.trees.specs.Tree.{Tree, cons, liftP, Holes, Sig}
+use Rattle.trees.specs.Tree.{Ty, Tree, cons, liftP, Holes, Sig}
 use Rattle.trees.specs.Moves.{Solutions, NoneFrozen}
 use Rattle.trees.specs.Free.{Scoped, All-map}
 use Rattle.trees.specs.Typing.{Declared}
@@ -46,6 +46,27 @@ pub record WalkAllKnown (R : ℕ) (s : Store) (c d l : ℕ) : Type 0 where
   pub applied : Applied (s .words) (s .used) l tree
   pub inside : Holes (Declared sig) tree
   pub scoped : Scoped (d + c) tree
+
+-- the solution of a solved hole, in the hole's context
+pub solution-known : {R : ℕ} {s : Store} {D : Sig} {σ : Solutions} → Holds R s D σ → SolScoped D σ → (h : ℕ) (C : List Ty) (b : ℕ) → D h ≡ some (C, b)
+    → (t : ℕ) → getD (s .solutions) h NONE ≡ t → (t ≡ NONE → ⊥) → WalkKnown R s (length C) 0 t
+solution-known {R} {s} {D} {σ} i v h C b d t q n = go (σ h) refl
+  where
+    go : (o : Option Tree) → σ h ≡ o → WalkKnown R s (length C) 0 t
+    go none z = absurd (n (sym q ∙ i .leaves h (declared-low i h (C, b) d) z))
+    go (some u) z =
+        let w = v h u z in
+        let l = ap length (declared-once (sym (w .2) ∙ d) .0) in
+        record {
+          sig = D;
+          sols = σ;
+          holds = i;
+          solved = v;
+          tree = u;
+          reads = rw q at (i .solves h u z);
+          inside = i .inside h u z;
+          scoped = All-map (λ j x. omega arith) u (w .3);
+        }
 
 scope-in : (c d j : ℕ) → liftP (λ i. i < d + c) j → j < d + 1 + c
 scope-in c d zero h = omega arith
@@ -94,25 +115,7 @@ module _ {R : ℕ} {s : Store} {c d r : ℕ} (k : WalkKnown R s c d r) where
 
     -- the solution of a solved hole
     pub walk-solution : (t : ℕ) → getD (s .solutions) (fieldA (s .words) r) NONE ≡ t → (t ≡ NONE → ⊥) → WalkKnown R s (length (variables (s .words) r)) 0 t
-    walk-solution t q n = go (k .sols (fieldA (s .words) r)) refl
-      where
-        go : (o : Option Tree) → k .sols (fieldA (s .words) r) ≡ o → WalkKnown R s (length (variables (s .words) r)) 0 t
-        go none z = let d = declares in absurd (n (sym q ∙ k .holds .leaves (fieldA (s .words) r) (declared-low (k .holds) (fieldA (s .words) r) (d .0, d .1) (d .2)) z))
-        go (some u) z =
-            let d = declares in
-            let v = k .solved (fieldA (s .words) r) u z in
-            let n = ap length (declared-once (sym (v .2) ∙ d .2) .0) in
-            let l = d .3 in
-            record {
-              sig = k .sig;
-              sols = k .sols;
-              holds = k .holds;
-              solved = k .solved;
-              tree = u;
-              reads = rw q at (k .holds .solves (fieldA (s .words) r) u z);
-              inside = k .holds .inside (fieldA (s .words) r) u z;
-              scoped = All-map (λ j h. omega arith) u (v .3);
-            }
+    walk-solution t q n = let d = declares in rw (d .3) (solution-known (k .holds) (k .solved) (fieldA (s .words) r) (d .0) (d .1) (d .2) t q n)
 
 module _ {R : ℕ} {s : Store} {c d l : ℕ} (ne : l ≡ NONE → ⊥) (k : WalkAllKnown R s c d l) where
   abbrev Parts : Type 0
@@ -133,6 +136,7 @@ module _ {R : ℕ} {s : Store} {c d l : ℕ} (ne : l ≡ NONE → ⊥) (k : Walk
       let p = parts in
       record { sig = k .sig; sols = k .sols; holds = k .holds; solved = k .solved; tree = p .0; reads = p .2; inside = p .4 .0; scoped = p .5 .0 }
 
+  -- the rest, in the same store
   pub walk-second : WalkAllKnown R s c d (fieldB (s .words) l)
   walk-second =
       let p = parts in

@@ -8,10 +8,9 @@ use lib.ListN.{getD}
 use mir.Syntax.{w32}
 use mir.Val.{Fits}
 use Rattle.rules.specs.declared.Found.the-variants.{At, Nowhere}
-use Rattle.rules.specs.Words.{NONE}
 use Rattle.rules.specs.Map.{lookup, placeOf}
 use Rattle.places.specs.declared.Map.{Map}
-use Rattle.places.specs.Maps.{mapOf, Whole}
+use Rattle.places.specs.Maps.{mapOf}
 use Rattle.places.specs.Looking.{Looks, place-beyond, place-none, place-some, place-inner, place-out, place-at, place-fits}
 
 -- what renaming asks: the variable has a place
@@ -46,15 +45,3 @@ module _ (m : Map) (d v : ℕ) where
 
     pub renamed-outer : placeOf (mapOf false m) d v ≡ At (getD (m .places) (v - d) 0 + d)
     renamed-outer = place-at (mapOf false m) d v _ le leads-to
-
--- every position of the map has a place
-abbrev pub Full : Map → Type 0
-Full m = (j : ℕ) → j < m .len → getD (m .places) j 0 ≡ NONE → ⊥
-
--- then so has every variable that is bound inside or has a position
-pub full-place : (m : Map) (d v : ℕ) → Whole m → Full m → v < d + m .len → (w : ℕ) × (placeOf (mapOf false m) d v ≡ At w)
-full-place m d v p full lt = go (decLt v d)
-  where
-    go : Dec (v < d) → (w : ℕ) × (placeOf (mapOf false m) d v ≡ At w)
-    go (yes h) = (v, renamed-inner m d v h)
-    go (no h) = let k : v - d < m .len = omega arith in (_, place-at (mapOf false m) d v _ (omega arith) (place-some m p (v - d) k (full (v - d) k)))

@@ -1,13 +1,16 @@
 -- What showing a term asks and says below its lambdas.
 use Prim.Native.Nat.{ℕ, _-_}
 use mathlib.Core.List.{List}
+use mathlib.Core.Bool.{false}
 use native.Mathlib.Omega.{arith}
 use Rattle.store.specs.declared.Walked.{Walked}
 use Rattle.table.specs.declared.Record.{Record}
 use Rattle.places.specs.declared.Map.{Map}
+use Rattle.places.specs.Maps.{mapOf}
 use Rattle.rewrite.specs.Lambdas.{Under}
 use Rattle.rewrite.specs.Below.{Opens, Below, below-gives}
-use Rattle.show.specs.Shows.{Gives, ShowsT, show-lambda}
+use Rattle.rewrite.specs.Writes.{gives-lambda}
+use Rattle.show.specs.Shows.{unrolls, Gives, ShowsT}
 use Rattle.show.specs.Ready.{ReadyT, to-read, body-less, to-body}
 
 module _ {O : ℕ} {m : Map} {ws ss os : List ℕ} (used : ℕ) {F : ℕ} where
@@ -19,9 +22,9 @@ module _ {O : ℕ} {m : Map} {ws ss os : List ℕ} (used : ℕ) {F : ℕ} where
         room = λ d r h. h .on .room;
         less = λ d r w e t h. body-less w e h t;
         body = λ d r w e t h. to-body w e h t;
-        over = λ d r w e t k s o g. show-lambda O m ws s os used F d r w e o t (omega arith) g;
+        over = λ d r w e t k s o g. gives-lambda (unrolls O ws) 4096 0 F (mapOf false m) d r os s used w e o t k g;
       }
 
   module _ {d₀ r₀ d r : ℕ} {w : Record} (h : Below (ReadyT O m ws ss os F) (λ s. Gives O m ws s os used F) O ws os d₀ r₀ d r w) where
     pub below-ends : (os₁ : List ℕ) (x : Walked) (os₂ : List ℕ) (y : Walked) → ShowsT O m ws ss os used F d r os₁ x → Under 0 O (d - d₀) os₁ x os₂ y → ShowsT O m ws ss os used F d₀ r₀ os₂ y
-    below-ends os₁ x os₂ y p q = record { run = below-gives h 0 ss ss os₁ x os₂ y (p .run) q }
+    below-ends os₁ x os₂ y p q = record { run = below-gives h 0 ss ss os₁ x os₂ y (p .run) q; grown = q .grown }

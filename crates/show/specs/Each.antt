@@ -1,123 +1,64 @@
 -- What showing an argument list asks, argument by argument.
 use Prim.Native.Nat.{ℕ, suc, _+_, _*_, _<_, _≤_}
-use mathlib.Core.Path.{_≡_, refl, sym, ap, _∙_}
-use mathlib.Core.List.{List, [], _∷_, _++_}
+use mathlib.Core.Path.{_≡_, refl}
+use mathlib.Core.List.{List, _∷_}
 use mathlib.Core.Bool.{false}
 use native.Mathlib.Omega.{arith}
-use lib.ListN.{length, set, take, length-set}
-use lib.Seq.{take-suc-set}
-use Rattle.rules.specs.declared.Failure.{Failure}
-use Rattle.store.specs.declared.Walked.{Walked}
-use Rattle.store.specs.declared.Walked.the-variants.{Root, Failed}
+use lib.ListN.{length}
 use Rattle.table.specs.declared.Record.{Record}
 use Rattle.table.specs.Reading.{IsRecord}
 use Rattle.places.specs.declared.Map.{Map}
 use Rattle.rules.specs.Words.{NONE, elements}
-use Rattle.rules.specs.Store.{pushCells}
-use Rattle.rules.specs.Rewrite.{writeAll}
+use Rattle.rules.specs.Store.{Store}
 use Rattle.rules.specs.Show.{showTerm}
-use Rattle.laws.specs.Lists.{size, elements-none}
+use Rattle.laws.specs.Lists.{size}
 use Rattle.invariants.specs.Floor.{Sub, Args}
 use Rattle.invariants.specs.Rise.{reach}
-use Rattle.promise.specs.ShowKnown.{show-first, show-rest}
-use Rattle.store.specs.Said.{store, shown, Does}
+use Rattle.promise.specs.WalkKnown.{walk-first, walk-second}
 use Rattle.places.specs.Maps.{mapOf}
-use Rattle.narrow.specs.Each.{writeRest, writes-all, rest-end, rest-stops, rest-goes}
-use Rattle.narrow.specs.Cells.{Celling}
-use Rattle.rewrite.specs.Parts.{cell-read, lower-at, list-is, both-at, room-at}
-use Rattle.show.specs.Shows.{ShowsT, ShowsL}
+use Rattle.rewrite.specs.Parts.{cell-read, lower-at, list-is, both-at}
+use Rattle.rewrite.specs.Each.{Splits, Turn as Loop, turn-read as read, turn-head as head, turn-lower as lower}
 use Rattle.show.specs.Ready.{ReadyT, ReadyL, on-part}
 
+module _ (O : ℕ) (m : Map) (ws ss : List ℕ) (F d : ℕ) where
+  abbrev Term : Store → ℕ → Type 0
+  Term s r = ReadyT O m ws ss (s .words) F d r
+
+  abbrev All : Store → ℕ → Type 0
+  All s l = ReadyL O m ws ss (s .words) F d l
+
+  parts : (s : Store) (l : ℕ) (h : All s l) → (l ≡ NONE → ⊥) → (w : Record) → IsRecord ws l w → Sub ws (h .table .home) F (h .table .used) (w .a) × Args ws (h .table .home) F (h .table .used) (w .b)
+  parts s l h ne w e = let t = h .table in both-at (t .R) (t .n) (t .home) ws ss (t .used) F l (t .fine) (h .is) ne w e
+
+  pub splits : Splits (λ f. showTerm f O ws) (λ _. ws) Term All O 4096 0 F (mapOf false m) d
+  splits =
+      record {
+        room = λ s l h. h .on .room;
+        since = λ s l h. omega arith;
+        few = λ s l h. h .few;
+        read = λ s l h. let t = h .table in cell-read (t .R) (t .n) (t .home) ws ss (t .used) F l (t .fine) (h .is);
+        cell = λ s l h ne w e.
+            let t = h .table in
+            record { list = list-is (t .R) (t .n) (t .home) ws ss (t .used) F l (t .fine) (h .is) ne w e; lower = lower-at (t .R) (t .n) (t .home) ws ss (t .used) F l (t .fine) (h .is) ne w e };
+        first = λ s l h ne w e c.
+            let a = c .lower .0 in
+            record { table = h .table; is = parts s l h ne w e .0; on = on-part d (suc (w .a)) (s .words) (h .on) refl (omega arith); scope = h .scope; full = h .full; known = rw (e .a-is) (walk-first ne (h .known)) };
+        rest = λ s l h ne w e c s₁ y g lw.
+            let b = c .lower .1 in
+            let k : length (w .a ∷ elements ws (w .b)) ≤ 16 = rw (c .list) at (h .few) in
+            (record { table = h .table; is = parts s l h ne w e .1; few = omega arith; on = on-part d (size (w .b)) (s₁ .words) (h .on) lw (omega arith); scope = h .scope; full = h .full; known = rw (e .b-is) (walk-second ne (h .known)) }, refl);
+      }
+
 -- after k arguments: what they were written as, and what is left
-pub record Turn (O : ℕ) (m : Map) (ws ss os₀ : List ℕ) (used₀ F d l₀ : ℕ) (os noted : List ℕ) (k used l : ℕ) : Type 0 where
-  pub same : length os ≡ length os₀
-  pub array : length noted ≡ 16
-  pub few : k + length (elements ws l) ≤ 16
-  pub less : size l ≤ size l₀
-  pub ready : ReadyL O m ws ss os F d l
-  pub leads : (f : ℕ) → reach 4096 F (size l₀) ≤ f → writeAll (showTerm f O ws) O (mapOf false m) d (elements ws l₀) (store os₀ ss used₀)
-      ≡ writeRest (showTerm f O ws) O (mapOf false m) d (take k noted) (elements ws l) (store os ss used)
+abbrev pub Turn : ℕ → Map → List ℕ → List ℕ → List ℕ → ℕ → ℕ → ℕ → ℕ → List ℕ → List ℕ → ℕ → ℕ → ℕ → Type 0
+Turn O m ws ss os₀ used₀ F d l₀ os noted k used l = Loop (λ f. showTerm f O ws) (λ _. ws) (Term O m ws ss F d) (All O m ws ss F d) O 4096 0 F (mapOf false m) d os₀ ss used₀ l₀ os ss noted k used l
 
-module _ (O : ℕ) (m : Map) (ws ss os₀ : List ℕ) (used₀ F d l₀ : ℕ) where
-  pub turn-first : (noted : List ℕ) → length noted ≡ 16 → ReadyL O m ws ss os₀ F d l₀ → Turn O m ws ss os₀ used₀ F d l₀ os₀ noted 0 used₀ l₀
-  turn-first noted z h =
-      let f = h .few in
-      record { same = refl; array = z; few = omega arith; less = omega arith; ready = h; leads = λ f hf. writes-all (showTerm f O ws) O (mapOf false m) d (elements ws l₀) (store os₀ ss used₀) }
+module _ {O : ℕ} {m : Map} {ws ss os₀ : List ℕ} {used₀ F d l₀ : ℕ} {os noted : List ℕ} {k used l : ℕ} (h : Turn O m ws ss os₀ used₀ F d l₀ os noted k used l) (ne : l ≡ NONE → ⊥) where
+  pub turn-read : 4 * l + 3 < length ws
+  turn-read = read h ne
 
-  module _ (os noted : List ℕ) (k used l : ℕ) (h : Turn O m ws ss os₀ used₀ F d l₀ os noted k used l) where
-    pub turn-kept : (os₁ : List ℕ) → length os₁ ≡ length os → length os₁ ≡ length os₀
-    turn-kept os₁ e = e ∙ h .same
+  pub turn-falls : (w : Record) → IsRecord ws l w → (t : ℕ) → 2 * reach 4096 F (size l₀) ≡ t → 2 * reach 4096 F (suc (w .a)) + 1 < t
+  turn-falls w e t z = let a = lower h ne w e in omega arith
 
-    pub turn-array : 16 ≡ length noted
-    turn-array = sym (h .array)
-
-    -- nothing is left
-    pub turn-cells : Celling os 0 used O noted k
-    turn-cells = let f = h .few in let z = h .array in record { room = h .ready .on .room; since = omega arith; few = omega arith }
-
-    pub turn-ends : (os₁ : List ℕ) (x : Walked) → l ≡ NONE → Does 0 (pushCells O (take k noted)) os used os₁ x → ShowsL O m ws ss os₀ used₀ F d l₀ os₁ x
-    turn-ends os₁ x e p = record { run = λ f hf. h .leads f hf ∙ rw (elements-none ws l e) (rest-end (showTerm f O ws) O (mapOf false m) d (take k noted) (store os ss used) ∙ p .run ss) }
-
-    -- a cell is left
-    module _ (ne : l ≡ NONE → ⊥) where
-      pub turn-read : 4 * l + 3 < length ws
-      turn-read = let r = h .ready in let t = r .table in cell-read (t .R) (t .n) (t .home) ws ss (t .used) F l (t .fine) (r .is) ne
-
-      module _ (w : Record) (e : IsRecord ws l w) where
-        parts : Sub ws (h .ready .table .home) F (h .ready .table .used) (w .a) × Args ws (h .ready .table .home) F (h .ready .table .used) (w .b)
-        parts = let r = h .ready in let t = r .table in both-at (t .R) (t .n) (t .home) ws ss (t .used) F l (t .fine) (r .is) ne w e
-
-        lower : (suc (w .a) < size l) × (size (w .b) < size l)
-        lower = let r = h .ready in let t = r .table in lower-at (t .R) (t .n) (t .home) ws ss (t .used) F l (t .fine) (r .is) ne w e
-
-        is-cell : elements ws l ≡ w .a ∷ elements ws (w .b)
-        is-cell = let r = h .ready in let t = r .table in list-is (t .R) (t .n) (t .home) ws ss (t .used) F l (t .fine) (r .is) ne w e
-
-        few : (k + 1) + length (elements ws (w .b)) ≤ 16
-        few = let r = h .ready in let t = r .table in room-at (t .R) (t .n) (t .home) ws ss (t .used) F l (t .fine) (r .is) ne w e k (h .few)
-
-        pub room-left : k < 16
-        room-left = let f = few in omega arith
-
-        pub turn-falls : (t : ℕ) → 2 * reach 4096 F (size l₀) ≡ t → 2 * reach 4096 F (suc (w .a)) + 1 < t
-        turn-falls t z = let a = lower .0 in let b = h .less in omega arith
-
-        pub turn-less : size (w .b) < size l
-        turn-less = lower .1
-
-        pub turn-head : ReadyT O m ws ss os F d (w .a)
-        turn-head =
-            let r = h .ready in
-            let a = lower .0 in
-            record { table = r .table; is = parts .0; on = on-part d (suc (w .a)) os (r .on) refl (omega arith); known = rw (e .a-is) (show-first ne (r .known)) }
-
-        module _ (os₁ : List ℕ) (x : Walked) (p : ShowsT O m ws ss os used F d (w .a) os₁ x) where
-          pub turn-stops : (e₁ : Failure) → x ≡ Failed e₁ → ShowsL O m ws ss os₀ used₀ F d l₀ os₁ (Failed e₁)
-          turn-stops e₁ q =
-              let a = lower .0 in
-              let b = h .less in
-              record {
-                run = λ f hf. h .leads f hf ∙ rw is-cell
-                    (rest-stops (showTerm f O ws) O (mapOf false m) d (take k noted) (w .a) (elements ws (w .b)) (store os ss used) os₁ ss e₁ (p .run f (omega arith) ∙ ap (shown os₁ ss) q));
-              }
-
-          pub turn-next : (y u₁ : ℕ) → x ≡ Root y u₁ → length os₁ ≡ length os → Turn O m ws ss os₀ used₀ F d l₀ os₁ (set noted k y) (k + 1) u₁ (w .b)
-          turn-next y u₁ q lo =
-              let r = h .ready in
-              let a = lower .0 in
-              let b = lower .1 in
-              let c = h .less in
-              let nt = h .array in
-              let rl = room-left in
-              let fe = few in
-              let ke : k + 1 ≡ suc k = omega arith in
-              let tk : take (k + 1) (set noted k y) ≡ take k noted ++ (y ∷ []) = rw ke (take-suc-set noted k y (omega arith)) in
-              record {
-                same = lo ∙ h .same;
-                array = simp length-set nt;
-                few = few;
-                less = omega arith;
-                ready = record { table = r .table; is = parts .1; few = omega arith; on = on-part d (size (w .b)) os₁ (r .on) lo (omega arith); known = rw (e .b-is) (show-rest ne (r .known)) };
-                leads = λ f hf. h .leads f hf ∙ rw (is-cell, tk)
-                    (rest-goes (showTerm f O ws) O (mapOf false m) d (take k noted) (w .a) (elements ws (w .b)) (store os ss used) (store os₁ ss u₁) y (p .run f (omega arith) ∙ ap (shown os₁ ss) q));
-              }
+  pub turn-head : (w : Record) → IsRecord ws l w → ReadyT O m ws ss os F d (w .a)
+  turn-head w e = head h ne w e

@@ -18,7 +18,9 @@ use Rattle.invariants.specs.Floor.{Sub, Args, Fine}
 use Rattle.invariants.specs.Grow.{sub-less, args-less}
 use Rattle.invariants.specs.Places.{Low, followed}
 use Rattle.invariants.specs.Rise.{reach, raised-on, Rises, rises}
-use Rattle.promise.specs.ShowKnown.{ShowKnown, ShowAllKnown, HoleKnown, show-body, show-constant, show-variable, show-arguments, show-hole, hole-solution}
+use Rattle.promise.specs.WalkKnown.{WalkKnown, WalkAllKnown, walk-body, walk-constant, walk-variable}
+use Rattle.promise.specs.CopyKnown.{Full, full-place, full-arguments}
+use Rattle.promise.specs.ShowKnown.{HoleKnown, full-hole}
 use Rattle.store.specs.Said.{store, Then, over}
 use Rattle.places.specs.Maps.{mapOf, Whole}
 use Rattle.places.specs.Looking.{Looks}
@@ -29,7 +31,8 @@ use Rattle.rewrite.specs.Renamed.{Renaming}
 use Rattle.rewrite.specs.Renamings.{Renamings}
 use Rattle.rewrite.specs.Levels.{Headed, of-constant}
 use Rattle.rewrite.specs.Parts.{term-read, body-at, args-at, size-args, few-at, counts-at}
-use Rattle.show.specs.Shows.{ShowsT, ShowsL, ShowsH, show-rigid, show-occurrence, hole-expanded}
+use Rattle.rewrite.specs.Writes.{writes-rigid}
+use Rattle.show.specs.Shows.{unrolls, ShowsT, ShowsL, ShowsH, show-occurrence, hole-expanded}
 
 -- the table that is read: of a final store of the machine
 pub record Final (ws ss : List ℕ) : Type 0 where
@@ -48,11 +51,14 @@ pub record On (O : ℕ) (m : Map) (os : List ℕ) (F d k : ℕ) : Type 0 where
   pub fits : top + d + reach 4096 F k < 134217728
   pub floor : 1 ≤ F
 
+-- a term; its scope is the number of variables outside its lambdas, and the map has a place for each of them
 pub record ReadyT (O : ℕ) (m : Map) (ws ss os : List ℕ) (F d r : ℕ) : Type 0 where
   pub table : Final ws ss
   pub is : Sub ws (table .home) F (table .used) r
   pub on : On O m os F d (suc r)
-  pub known : ShowKnown (table .R) (store ws ss (table .used)) (mapOf false m) d r
+  pub scope : ℕ
+  pub full : Full (mapOf false m) scope
+  pub known : WalkKnown (table .R) (store ws ss (table .used)) scope d r
 
 -- a term that is no lambda
 pub record ReadyB (O : ℕ) (m : Map) (ws ss os : List ℕ) (F d r : ℕ) : Type 0 where
@@ -64,7 +70,9 @@ pub record ReadyL (O : ℕ) (m : Map) (ws ss os : List ℕ) (F d l : ℕ) : Type
   pub is : Args ws (table .home) F (table .used) l
   pub few : length (elements ws l) ≤ 16
   pub on : On O m os F d (size l)
-  pub known : ShowAllKnown (table .R) (store ws ss (table .used)) (mapOf false m) d l
+  pub scope : ℕ
+  pub full : Full (mapOf false m) scope
+  pub known : WalkAllKnown (table .R) (store ws ss (table .used)) scope d l
 
 pub record ReadyH (O : ℕ) (m : Map) (ws ss os : List ℕ) (F h : ℕ) : Type 0 where
   pub table : Final ws ss
@@ -109,7 +117,9 @@ module _ {O : ℕ} {m : Map} {ws ss os : List ℕ} {F d r : ℕ} where
             table = h .table;
             is = sub-less ws (h .table .home) F F r (h .table .used) (w .a) body (omega arith) (omega arith);
             on = on-part (d + 1) (suc (w .a)) os (h .on) refl (omega arith);
-            known = rw (e .a-is) (show-body (h .known) (sym (e .tag-is) ∙ k));
+            scope = h .scope;
+            full = h .full;
+            known = rw (e .a-is) (walk-body (h .known) (sym (e .tag-is) ∙ k));
           }
 
   -- a term that is no lambda
@@ -130,7 +140,7 @@ module _ {O : ℕ} {m : Map} {ws ss os : List ℕ} {F d r : ℕ} where
     -- a rigid head
     pub to-name : w .tag ≡ 8 → Renaming m d (w .a)
     to-name t =
-        let p = show-variable (h .on .known) (sym (e .tag-is) ∙ t) .0 in
+        let p = full-place (h .on .full) d (fieldA ws r) (walk-variable (h .on .known) (sym (e .tag-is) ∙ t) .0) in
         record { looks = looks-on (h .on .on); to = p .0; has = rw (e .a-is) (p .1) }
 
     module _ (b : w .tag ≡ 9 → ⊥) where
@@ -147,17 +157,17 @@ module _ {O : ℕ} {m : Map} {ws ss os : List ℕ} {F d r : ℕ} where
       pub fall-args : (t : ℕ) → 2 * reach 4096 F (suc r) ≡ t → 2 * reach 4096 F (size (w .b)) < t
       fall-args t z = let s = small in omega arith
 
-      knows : ShowAllKnown (h .on .table .R) (store ws ss (h .on .table .used)) (mapOf false m) d (w .b)
+      knows : WalkAllKnown (h .on .table .R) (store ws ss (h .on .table .used)) (h .on .scope) d (w .b)
       knows = rw (e .b-is) (go (ℕ-discrete (tag ws r) 7))
         where
-          go : Dec (tag ws r ≡ 7) → ShowAllKnown (h .on .table .R) (store ws ss (h .on .table .used)) (mapOf false m) d (fieldB ws r)
-          go (yes t) = show-constant (h .on .known) t
+          go : Dec (tag ws r ≡ 7) → WalkAllKnown (h .on .table .R) (store ws ss (h .on .table .used)) (h .on .scope) d (fieldB ws r)
+          go (yes t) = walk-constant (h .on .known) t
           go (no t) =
               let lo = h .on .is .term .low in
               let hi = h .on .is .term .high in
               let z = e .tag-is in
               let p = h .plain in
-              show-variable (h .on .known) (omega arith) .1
+              walk-variable (h .on .known) (omega arith) .1
 
       pub to-args : ReadyL O m ws ss os F d (w .b)
       to-args =
@@ -169,12 +179,14 @@ module _ {O : ℕ} {m : Map} {ws ss os : List ℕ} {F d r : ℕ} where
             is = args-less ws (t .home) F F r (t .used) (w .b) (args-at (t .R) (t .n) (t .home) ws ss (t .used) F r (t .fine) (h .on .is) w e a) (omega arith) (omega arith);
             few = few-at (t .R) (t .n) (t .home) ws ss (t .used) F r (t .fine) (h .on .is) w e a;
             on = on-part d (size (w .b)) os (h .on .on) refl (omega arith);
+            scope = h .on .scope;
+            full = h .on .full;
             known = knows;
           }
 
       pub shows-rigid : (v : ℕ) (os₁ : List ℕ) (used : ℕ) (x : Walked) (os₂ : List ℕ) (y : Walked) → Headed (mapOf false m) d w v
           → ShowsL O m ws ss os used F d (w .b) os₁ x → Then 0 (over O (w .tag) v) os₁ x os₂ y → ShowsT O m ws ss os used F d r os₂ y
-      shows-rigid v os₁ used x os₂ y t p q = show-rigid O m ws ss os used F d r w e v os₁ x os₂ y t (let s = small in omega arith) p q
+      shows-rigid v os₁ used x os₂ y t p q = writes-rigid (unrolls O ws) 4096 0 F (mapOf false m) d r os ss used w e v os₁ ss x os₂ y t small p q
 
     -- an occurrence
     module _ (k : w .tag ≡ 9) where
@@ -188,7 +200,7 @@ module _ {O : ℕ} {m : Map} {ws ss os : List ℕ} {F d r : ℕ} where
           record {
             counts = counts-at (t .R) (t .n) (t .home) ws ss (t .used) F r (t .fine) (h .on .is) w e nine;
             looks = looks-on (h .on .on);
-            have = rw (e .b-is) (show-arguments (h .on .known) nine);
+            have = rw (e .b-is) (full-arguments (h .on .full) (h .on .known) nine);
           }
 
       own : F ≤ r
@@ -231,7 +243,7 @@ module _ {O : ℕ} {m : Map} {ws ss os : List ℕ} {F d r : ℕ} where
               fits = omega arith;
               floor = omega arith;
             };
-            known = rw (f .run, e .a-is, e .b-is) (show-hole (h .on .known) nine);
+            known = rw (f .run, e .a-is, e .b-is) (full-hole (h .on .full) (h .on .known) nine);
           }
 
       pub shows-occurrence : (next : Map) (used : ℕ) (os₁ : List ℕ) (x : Walked) → Followed ws false m d (w .b) next → ShowsH O next ws ss os used (r + 1) (w .a) os₁ x → ShowsT O m ws ss os used F d r os₁ x
@@ -256,7 +268,7 @@ module _ {O : ℕ} {m : Map} {ws ss os : List ℕ} {F h : ℕ} (g : ReadyH O m w
     fall-solution k z = let l = low in omega arith
 
     pub to-term : ReadyT O m ws ss os F 0 t
-    to-term = let l = low in record { table = g .table; is = at; on = on-part 0 (suc t) os (g .on) refl (omega arith); known = hole-solution (g .known) t st ne }
+    to-term = let l = low in record { table = g .table; is = at; on = on-part 0 (suc t) os (g .on) refl (omega arith); scope = g .known .scope; full = g .known .full; known = g .known .solution t st ne }
 
     pub shows-solution : (used : ℕ) (os₁ : List ℕ) (x : Walked) → ShowsT O m ws ss os used F 0 t os₁ x → ShowsH O m ws ss os used F h os₁ x
     shows-solution used os₁ x p = hole-expanded O m ws ss os used F h t st os₁ x ne low p

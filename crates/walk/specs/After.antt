@@ -9,7 +9,7 @@ use borrow.Author.Tests.{ne-eqb}
 use Rattle.table.specs.declared.Record.{Record}
 use Rattle.table.specs.Reading.{IsRecord}
 use Rattle.places.specs.declared.Map.{Map}
-use Rattle.rules.specs.Words.{NONE, fieldB, elements}
+use Rattle.rules.specs.Words.{NONE, elements}
 use Rattle.rules.specs.Store.{Store, goes}
 use Rattle.laws.specs.Lists.{size, elements-kept}
 use Rattle.invariants.specs.Floor.{Fine, Ext, Grown}
@@ -18,9 +18,8 @@ use Rattle.invariants.specs.Rise.{reach}
 use Rattle.invariants.specs.Keep.{kept}
 use Rattle.invariants.specs.Copy.{Nobody, copy-grows}
 use Rattle.promise.specs.WalkKnown.{WalkAllKnown, walk-rest}
-use Rattle.promise.specs.CopyKnown.{copied-rest}
+use Rattle.promise.specs.CopyKnown.{full-less, copied-rest}
 use Rattle.store.specs.Said.{store}
-use Rattle.rewrite.specs.Renamed.{full-place}
 use Rattle.walk.specs.Walks.{mapAt, writer, copies, walks}
 use Rattle.walk.specs.Ready.{Led, copying, solving, led-part, ReadyList}
 use Rattle.walk.specs.First.{first-parts, first-lower}
@@ -50,7 +49,7 @@ module _ {R n u : ℕ} {m : Map} {ws ss : List ℕ} {used F d l : ℕ} (h : Read
           let i = h .within a in
           let c = rw (copies R u fuel z) at g in (
             later (rw c at (copy-grows R n (h .on .top) fuel (mapAt F m) d (w .a) (store ws ss used) (h .home) (h .on .fine) (record { below = p .below; term = p .term; up = omega arith }) (h .on .low) (omega arith) (omega arith))),
-            rw (e .b-is) (copied-rest ne (h .known) (mapAt F m) (rw (ne-eqb F 0 a) (λ v lt. full-place m d v (h .on .whole) full (omega arith))) _ (rw (e .a-is) at c)),
+            rw (e .b-is) (copied-rest ne (h .known) (mapAt F m) (rw (ne-eqb F 0 a) (full-less full i)) _ (rw (e .a-is) at c)),
           )
       go (solving z lt fi) =
           let lo = first-lower h ne w e .0 in
@@ -62,16 +61,15 @@ module _ {R n u : ℕ} {m : Map} {ws ss : List ℕ} {used F d l : ℕ} (h : Read
   pub after-same : elements ws₁ (w .b) ≡ elements ws (w .b)
   after-same = elements-kept ws ws₁ used (w .b) (went .0 .ext .kept) (λ c lt five. h .on .fine .good c lt .cell five) (first-parts h ne w e .1 .here)
 
-  pub after-ready : (k : ℕ) → k + length (elements ws (w .b)) ≤ 16 → ReadyList R n u m ws₁ ss₁ u₁ F d (w .b)
-  after-ready k few =
+  pub after-ready : length (elements ws (w .b)) ≤ 16 → ReadyList R n u m ws₁ ss₁ u₁ F d (w .b)
+  after-ready few =
       let t = went in
       let gr = t .0 .ext .grown in
       let a = first-lower h ne w e .1 in
-      let fe : k + length (elements ws₁ (w .b)) ≤ 16 = rw after-same few in
       record {
         home = t .0 .home₁;
         is = args-kept _ _ _ _ _ _ _ _ _ (h .on .fine) (t .0 .ext) (first-parts h ne w e .1);
-        few = omega arith;
+        few = rw after-same few;
         on = record { fine = t .0 .fine; whole = h .on .whole; top = h .on .top; low = h .on .low; led = led-part u₁ _ _ (h .on .led) gr (omega arith) };
         scope = h .scope;
         within = h .within;

@@ -9,7 +9,8 @@ use Rattle.places.specs.declared.Map.{Map}
 use Rattle.invariants.specs.Rise.{reach}
 use Rattle.rewrite.specs.Lambdas.{Under}
 use Rattle.rewrite.specs.Below.{Opens, Below, below-gives}
-use Rattle.walk.specs.Walks.{Gives, WalksTerm, walk-lambda}
+use Rattle.rewrite.specs.Writes.{gives-lambda}
+use Rattle.walk.specs.Walks.{unrolls, mapAt, Gives, WalksTerm}
 use Rattle.walk.specs.Ready.{ReadyTerm, to-read, to-depth, body-less, to-body}
 
 module _ {R n u : ℕ} {m : Map} {ws ss : List ℕ} {used F : ℕ} where
@@ -21,7 +22,7 @@ module _ {R n u : ℕ} {m : Map} {ws ss : List ℕ} {used F : ℕ} where
         room = λ d r h. h .on .fine .room;
         less = λ d r w e t h. body-less w e t h;
         body = λ d r w e t h. to-body w e t h;
-        over = λ d r w e t k s o g. walk-lambda R n u m ws s used F d r w e o t (omega arith) g;
+        over = λ d r w e t k s o g. gives-lambda (unrolls R u) R n F (mapAt F m) d r ws s used w e o t k g;
       }
 
   module _ {d₀ r₀ d r : ℕ} {w : Record} (h : Below (ReadyTerm R n u m ws ss used F) (λ s. Gives R u m ws s used F) R ws ws d₀ r₀ d r w) where

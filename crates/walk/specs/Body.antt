@@ -1,15 +1,13 @@
 -- What the walk of a rigid head asks and says.
-use Prim.Native.Nat.{ℕ, suc, _+_, _*_, _<_, _≤_}
+use Prim.Native.Nat.{ℕ, suc, _*_, _<_, _≤_}
 use mathlib.Core.Path.{_≡_, sym, _∙_}
 use mathlib.Core.List.{List}
 use mathlib.Core.Bool.{Bool, true}
 use native.Mathlib.Omega.{arith}
 use lib.ListN.{length}
 use Rattle.rules.specs.declared.Found.{Found}
-use Rattle.rules.specs.declared.Found.the-variants.{At, Nowhere}
-use Rattle.rules.specs.declared.Failure.the-variants.{Escape}
+use Rattle.rules.specs.declared.Found.the-variants.{At}
 use Rattle.store.specs.declared.Walked.{Walked}
-use Rattle.store.specs.declared.Walked.the-variants.{Failed}
 use Rattle.table.specs.declared.Record.{Record}
 use Rattle.table.specs.Reading.{IsRecord}
 use Rattle.places.specs.declared.Map.{Map}
@@ -20,8 +18,13 @@ use Rattle.invariants.specs.Rise.{reach}
 use Rattle.store.specs.Said.{Does, Then, over}
 use Rattle.rewrite.specs.Levels.{Headed}
 use Rattle.walk.specs.Head.{headOf, head-at, isLeaf, leaf-parts}
-use Rattle.walk.specs.Walks.{mapAt, WalksTerm, WalksList, walk-leaf, walk-escape}
+use Rattle.walk.specs.Walks.{mapAt, WalksTerm, WalksList, walk-leaf}
 use Rattle.walk.specs.Ready.{ReadyTerm, ReadyBody, ReadyArgs, args-size, headed, to-args, walked-rigid}
+
+-- a rigid head without arguments
+pub leaf-walked : (R n u : ℕ) (m : Map) (ws ss : List ℕ) (used F d r : ℕ) (w : Record) → IsRecord ws r w → (b : Bool) (s : Found) (v : ℕ) (ws₁ : List ℕ) (x : Walked) → isLeaf w ≡ b → b ≡ true → headOf (mapAt F m) d w ≡ s → s ≡ At v → Does n (push R (w .tag) v NONE) ws used ws₁ x
+    → WalksTerm R n u m ws ss used F d r ws₁ ss x
+leaf-walked R n u m ws ss used F d r w e b s v ws₁ x l y p q g = let k = leaf-parts w (l ∙ y) in walk-leaf R n u m ws ss used F d r w e v ws₁ x (head-at _ _ _ s p v (k .1) (k .2) q) (k .0) g
 
 -- a rigid head, written as v
 pub record Rigid (R n u : ℕ) (m : Map) (ws ss : List ℕ) (used F d r : ℕ) (w : Record) (v : ℕ) : Type 0 where
@@ -37,14 +40,6 @@ module _ {R n u : ℕ} {m : Map} {ws ss : List ℕ} {used F d r : ℕ} where
   term-since h = h .on .fine .since
 
   module _ (w : Record) (e : IsRecord ws r w) where
-    pub term-escapes : (s : Found) → headOf (mapAt F m) d w ≡ s → s ≡ Nowhere → WalksTerm R n u m ws ss used F d r ws ss (Failed Escape)
-    term-escapes s p q = walk-escape R n u m ws ss used F d r w e s p q
-
-    -- a rigid head without arguments
-    pub leaf-walked : (b : Bool) (s : Found) (v : ℕ) (ws₁ : List ℕ) (x : Walked) → isLeaf w ≡ b → b ≡ true → headOf (mapAt F m) d w ≡ s → s ≡ At v → Does n (push R (w .tag) v NONE) ws used ws₁ x
-        → WalksTerm R n u m ws ss used F d r ws₁ ss x
-    leaf-walked b s v ws₁ x l y p q g = let k = leaf-parts w (l ∙ y) in walk-leaf R n u m ws ss used F d r w e v ws₁ x (head-at _ _ _ s p v (k .1) (k .2) q) (k .0) g
-
     pub body-rigid : ReadyBody R n u m ws ss used F d r → (s : Found) (v : ℕ) → (w .tag ≡ 9 → ⊥) → headOf (mapAt F m) d w ≡ s → s ≡ At v → Rigid R n u m ws ss used F d r w v
     body-rigid h s v ne p q = record { on = h .on; is = e; head = headed w s v e (λ t. h .plain (sym (e .tag-is) ∙ t)) ne (h .on) p q }
 

@@ -25,6 +25,7 @@ use Rattle.invariants.specs.Places.{Low, followed}
 use Rattle.invariants.specs.Rise.{reach, raised, raised-first, raised-on, Rises, rises}
 use Rattle.invariants.specs.Keep.{highest}
 use Rattle.promise.specs.WalkKnown.{WalkKnown, WalkAllKnown, walk-body, walk-constant, walk-variable, walk-arguments, walk-arity, walk-solution}
+use Rattle.promise.specs.CopyKnown.{Full, full-less, full-arguments}
 use Rattle.store.specs.Said.{store, Does, Then, over}
 use Rattle.places.specs.Maps.{Whole, mapOf, side}
 use Rattle.places.specs.Looking.{Looks, Within}
@@ -32,16 +33,16 @@ use Rattle.places.specs.Lists.{varsOf}
 use Rattle.places.specs.Follow.{Following, Followed}
 use Rattle.narrow.specs.Writing.{Writing}
 use Rattle.narrow.specs.Narrowing.{Narrowing}
-use Rattle.rewrite.specs.Renamed.{Full, full-place}
 use Rattle.rewrite.specs.Renamings.{Renamings}
 use Rattle.rewrite.specs.Levels.{Headed, of-constant, of-variable}
+use Rattle.rewrite.specs.Writes.{writes-rigid}
 use Rattle.rewrite.specs.Parts.{term-read, body-at, args-at, size-args, few-at, counts-at, hole-held, narrows}
 use Rattle.walk.specs.Head.{headOf, head-at, head-plain}
-use Rattle.walk.specs.Walks.{mapAt, WalksTerm, WalksList, WalksHole, walk-rigid, walk-hole, hole-kept, hole-hops}
+use Rattle.walk.specs.Walks.{unrolls, mapAt, WalksTerm, WalksList, WalksHole, walk-hole, hole-kept, hole-hops}
 
 -- how far variables may be led from x on, at a measure k: a copy, in which every position has a place, leads by no more than the depth
 pub data Led (R u : ℕ) (m : Map) (used F x k : ℕ) : Type 0 where
-  copying : u ≡ NONE → (F ≡ 0 → ⊥) → Full m → x + k ≤ limit used → Led R u m used F x k
+  copying : u ≡ NONE → (F ≡ 0 → ⊥) → Full (mapOf false m) (m .len) → x + k ≤ limit used → Led R u m used F x k
   solving : (u ≡ NONE → ⊥) → u < used → x + reach R F k ≤ highest → Led R u m used F x k
 
 module _ {R u : ℕ} {m : Map} {used F x k : ℕ} where
@@ -57,7 +58,7 @@ module _ {R u : ℕ} {m : Map} {used F x k : ℕ} where
   led-solving (copying z a f h) n = absurd (n z)
   led-solving (solving z a h) n = (a, h)
 
-  led-copying : Led R u m used F x k → u ≡ NONE → (F ≡ 0 → ⊥) × Full m
+  led-copying : Led R u m used F x k → u ≡ NONE → (F ≡ 0 → ⊥) × Full (mapOf false m) (m .len)
   led-copying (copying z a f h) e = (a, f)
   led-copying (solving z a h) e = absurd (z e)
 
@@ -199,7 +200,7 @@ module _ {R n u : ℕ} {m : Map} {ws ss : List ℕ} {used F d r : ℕ} where
         }
 
     pub walked-rigid : (ws₁ ss₁ : List ℕ) (x : Walked) (ws₂ : List ℕ) (y : Walked) → WalksList R n u m ws ss used F d (w .b) ws₁ ss₁ x → Then n (over R (w .tag) v) ws₁ x ws₂ y → WalksTerm R n u m ws ss used F d r ws₂ ss₁ y
-    walked-rigid ws₁ ss₁ x ws₂ y p q = walk-rigid R n u m ws ss used F d r w e v ws₁ ss₁ x ws₂ y g (let s = args-size in omega arith) p q
+    walked-rigid ws₁ ss₁ x ws₂ y p q = writes-rigid (unrolls R u) R n F (mapAt F m) d r ws ss used w e v ws₁ ss₁ x ws₂ y g args-size p q
 
   -- an occurrence
   pub to-hole : (w : Record) → IsRecord ws r w → w .tag ≡ 9 → ReadyTerm R n u m ws ss used F d r → ReadyHole R n u m ws ss used F d r
@@ -217,7 +218,7 @@ module _ {R n u : ℕ} {m : Map} {ws ss : List ℕ} {used F d r : ℕ} where
       record {
         counts = counts-at R n (h .on .home) ws ss used F r (h .on .on .fine) (h .on .is) w e (h .occ);
         looks = rw (ne-eqb F 0 (c .0)) at (look (h .on));
-        have = rw (e .b-is) (all-map _ _ (λ v lt. full-place m d v (h .on .on .whole) (c .1) (omega arith)) (variables ws r) (walk-arguments (h .on .known) (h .occ)));
+        have = rw (e .b-is) (full-arguments (full-less (c .1) i) (h .on .known) (h .occ));
       }
 
   pub to-write : (w : Record) (next : Map) → Followed ws false m d (w .b) next → ReadyHole R n u m ws ss used F d r → Writing ws n used R next

@@ -1,11 +1,10 @@
 -- A copy of a solution, its context variables renamed to the arguments of the occurrence.
-use Prim.Native.Nat.{ℕ, zero, suc, _+_, _*_, _<_, _≤_}
-use mathlib.Core.Path.{_≡_, refl, sym, _∙_}
-use mathlib.Core.List.{List, [], _∷_}
+use Prim.Native.Nat.{ℕ, suc, _+_, _*_, _<_, _≤_}
+use mathlib.Core.Path.{_≡_, refl, sym}
+use mathlib.Core.List.{List}
 use mathlib.Core.Bool.{false}
 use native.Mathlib.Omega.{arith}
-use lib.ListN.{length, getD, length-map}
-use lib.Seq.{getD-take}
+use lib.ListN.{length, length-map}
 use Rattle.store.specs.declared.Walked.{Walked}
 use Rattle.places.specs.declared.Map.{Map}
 use Rattle.table.specs.declared.Record.{Record}
@@ -18,11 +17,13 @@ use Rattle.invariants.specs.Places.{Low, variables-low}
 use Rattle.invariants.specs.Rise.{reach}
 use Rattle.invariants.specs.Copy.{occurrence-low}
 use Rattle.store.specs.Said.{store, shown, Since}
+use Rattle.trees.specs.Tree.{nth}
+use Rattle.promise.specs.Maps.{place-variables}
 use Rattle.promise.specs.WalkKnown.{WalkKnown}
-use Rattle.places.specs.Maps.{mapOf, placesOf, places-length}
+use Rattle.promise.specs.CopyKnown.{Full}
+use Rattle.places.specs.Maps.{mapOf}
 use Rattle.places.specs.Lists.{Counts, varsOf}
 use Rattle.places.specs.Arguments.{Arguments, arguments-inside}
-use Rattle.rewrite.specs.Renamed.{Full}
 use Rattle.rewrite.specs.Parts.{term-read, counts-at, names-at}
 use Rattle.walk.specs.Walks.{copies, WalksTerm}
 use Rattle.walk.specs.Ready.{copying, ReadyTerm}
@@ -40,11 +41,6 @@ pub record Copying (R n : ℕ) (ws ss : List ℕ) (used r t : ℕ) : Type 0 wher
 pub record CopiesSolution (R n : ℕ) (ws ss : List ℕ) (used r t : ℕ) (ws₁ ss₁ : List ℕ) (x : Walked) : Type 0 where
   pub run : (f : ℕ) → reach R 1 (suc t) < f → copy f R (toVariables 0 (variables ws r)) 0 t (store ws ss used) ≡ shown ws₁ ss₁ x
   pub grown : Since n x
-
-all-at : (P : ℕ → Type 0) (xs : List ℕ) (j : ℕ) → j < length xs → All P xs → P (getD xs j 0)
-all-at P [] j lt h = absurd (omega arith)
-all-at P (x ∷ xs) zero lt h = h .0
-all-at P (x ∷ xs) (suc j) lt h = all-at P xs j (omega arith) (h .1)
 
 module _ {R n : ℕ} {ws ss : List ℕ} {used r t : ℕ} (h : Copying R n ws ss used r t) where
   pub copying-read : 4 * r + 3 < length ws
@@ -69,17 +65,13 @@ module _ {R n : ℕ} {ws ss : List ℕ} {used r t : ℕ} (h : Copying R n ws ss 
       unfolding variables arguments
       named = rw (← e .b-is) (arguments-inside ws (w .b) m p names)
 
-      -- every argument is a variable, so every position has a place
-      full : Full m
-      full j lt z =
-          let l = places-length m (p .whole) in
-          let k : getD (placesOf m) j 0 < NONE = rw (p .run) (all-at (λ v. v < NONE) (varsOf ws (w .b)) j (rw (← p .run) (omega arith)) names) in
-          let g = getD-take (m .len) (m .places) j 0 lt in
-          absurd (omega arith)
-
-      as-many : length (variables ws r) ≤ m .len
+      as-many : length (variables ws r) ≡ m .len
       unfolding variables arguments
-      as-many = let k : length (elements ws (fieldB ws r)) ≡ m .len = rw (← e .b-is) (sym (p .len)) in let v : length (variables ws r) ≡ m .len = simp length-map k in omega arith
+      as-many = let k : length (elements ws (fieldB ws r)) ≡ m .len = rw (← e .b-is) (sym (p .len)) in simp length-map k
+
+      -- every argument is a variable, so every position has a place
+      full : Full (mapOf false m) (m .len)
+      full = rw (named, ← as-many) (record { place-at = λ j lt. (nth (variables ws r) j, place-variables (variables ws r) j lt) })
 
       pub copying-ready : ReadyTerm R n NONE m ws ss used 1 0 t
       copying-ready =
@@ -88,7 +80,7 @@ module _ {R n : ℕ} {ws ss : List ℕ} {used r t : ℕ} (h : Copying R n ws ss 
             is = h .is;
             on = record { fine = h .fine; whole = p .whole; top = limit r; low = rw named names-low; led = copying refl (λ z. omega arith) full names-fit };
             scope = length (variables ws r);
-            within = λ _. as-many;
+            within = λ _. let k = as-many in omega arith;
             known = h .known;
           }
 

@@ -1,6 +1,6 @@
 -- The walk's contracts and its big-step rules.
-use Prim.Native.Nat.{ℕ, suc, _+_, _<_, _≤_}
-use mathlib.Core.Path.{_≡_, refl, sym, _∙_}
+use Prim.Native.Nat.{ℕ, suc, _<_, _≤_}
+use mathlib.Core.Path.{_≡_, sym, _∙_}
 use mathlib.Core.List.{List, [], _∷_}
 use mathlib.Core.Bool.{true, false}
 use native.Mathlib.Omega.{arith}
@@ -23,11 +23,12 @@ use Rattle.rules.specs.Rewrite.{Writer, writeAll, writeTerm, keepHole, copy}
 use Rattle.rules.specs.Walk.{keepPlaced, walkHole, walk}
 use Rattle.laws.specs.Lists.{size}
 use Rattle.invariants.specs.Rise.{reach}
-use Rattle.store.specs.Said.{Does, Does², store, shown, Since, since-failed, Then, over, under}
+use Rattle.store.specs.Said.{Does, Does², store, shown, Since, since-failed, Then, under}
 use Rattle.places.specs.Maps.{mapOf, side}
 use Rattle.places.specs.Lists.{varsOf}
 use Rattle.places.specs.Follow.{Followed}
-use Rattle.rewrite.specs.Levels.{fuel, Headed, level-lambda, level-rigid, level-leaf, level-escape, level-hole}
+use Rattle.rewrite.specs.Levels.{Headed, level-escape}
+use Rattle.rewrite.specs.Writes.{Gives as Written, WritesT, WritesL, Unrolls, gives-level, writes-hole, writes-leaf}
 use Rattle.walk.specs.Head.{headOf, head-nowhere}
 
 -- the walk for hole u, and for no hole a copy, with so much fuel
@@ -57,13 +58,13 @@ module _ (R u f : ℕ) where
     unfolding onHole
     solves = rw (ne-eqb _ _ n, onHole)
 
-unrolls : (R u f : ℕ) (m : Pairs) (d r : ℕ) (s : Store) → writer R u (suc f) m d r s ≡ writeTerm (onHole R u f) (writer R u f) R (s .words) m d r s
+pub unrolls : (R u : ℕ) → Unrolls (writer R u) (onHole R u) (λ s. s .words) R
 unfolding copy walk
-unrolls R u f m d r s = go (ℕ-discrete u NONE)
+unrolls R u = record { level = λ f m d r s. go f m d r s (ℕ-discrete u NONE) }
   where
-    go : Dec (u ≡ NONE) → writer R u (suc f) m d r s ≡ writeTerm (onHole R u f) (writer R u f) R (s .words) m d r s
-    go (yes e) = rw (copies R u (suc f) e, copies R u f e, keeps R u f e)
-    go (no n) = rw (walks R u (suc f) n, walks R u f n, solves R u f n)
+    go : (f : ℕ) (m : Pairs) (d r : ℕ) (s : Store) → Dec (u ≡ NONE) → writer R u (suc f) m d r s ≡ writeTerm (onHole R u f) (writer R u f) R (s .words) m d r s
+    go f m d r s (yes e) = rw (copies R u (suc f) e, copies R u f e, keeps R u f e)
+    go f m d r s (no n) = rw (walks R u (suc f) n, walks R u f n, solves R u f n)
 
 -- the map on the side of a pair, under floor 0, and inside a solution
 abbrev pub mapAt : ℕ → Map → Pairs
@@ -71,46 +72,32 @@ mapAt F m = mapOf (eqb F 0) m
 
 -- with fuel enough, the walk of a term is this
 abbrev pub Gives : ℕ → ℕ → Map → List ℕ → List ℕ → ℕ → ℕ → ℕ → ℕ → Out ℕ → Type 0
-Gives R u m ws ss used F d r o = (f : ℕ) → reach R F (suc r) < f → writer R u f (mapAt F m) d r (store ws ss used) ≡ o
+Gives R u m ws ss used F d r o = Written (writer R u) R F (mapAt F m) d r (store ws ss used) o
 
 -- with fuel enough, the walk of a term, of a list and of an occurrence answers so
-pub record WalksTerm (R n u : ℕ) (m : Map) (ws ss : List ℕ) (used F d r : ℕ) (ws₁ ss₁ : List ℕ) (x : Walked) : Type 0 where
-  pub run : Gives R u m ws ss used F d r (shown ws₁ ss₁ x)
-  pub grown : Since n x
+abbrev pub WalksTerm : ℕ → ℕ → ℕ → Map → List ℕ → List ℕ → ℕ → ℕ → ℕ → ℕ → List ℕ → List ℕ → Walked → Type 0
+WalksTerm R n u m ws ss used F d r ws₁ ss₁ x = WritesT (writer R u) R n F (mapAt F m) d r (store ws ss used) ws₁ ss₁ x
 
-pub record WalksList (R n u : ℕ) (m : Map) (ws ss : List ℕ) (used F d l : ℕ) (ws₁ ss₁ : List ℕ) (x : Walked) : Type 0 where
-  pub run : (f : ℕ) → reach R F (size l) ≤ f → writeAll (writer R u f) R (mapAt F m) d (elements ws l) (store ws ss used) ≡ shown ws₁ ss₁ x
-  pub grown : Since n x
+abbrev pub WalksList : ℕ → ℕ → ℕ → Map → List ℕ → List ℕ → ℕ → ℕ → ℕ → ℕ → List ℕ → List ℕ → Walked → Type 0
+WalksList R n u m ws ss used F d l ws₁ ss₁ x = WritesL (writer R u) (λ s. s .words) R R n F (mapAt F m) d l (store ws ss used) ws₁ ss₁ x
 
 pub record WalksHole (R n u : ℕ) (m : Map) (ws ss : List ℕ) (used F d r : ℕ) (ws₁ ss₁ : List ℕ) (x : Walked) : Type 0 where
   pub run : (f : ℕ) → reach R F r ≤ f → onHole R u f (mapAt F m) d r (store ws ss used) ≡ shown ws₁ ss₁ x
   pub grown : Since n x
 
 module _ (R n u : ℕ) (m : Map) (ws ss : List ℕ) (used F d r : ℕ) where
-  more : (o : Out ℕ) → ((k : ℕ) → reach R F (suc r) ≤ k → writeTerm (onHole R u k) (writer R u k) R ws (mapAt F m) d r (store ws ss used) ≡ o) → Gives R u m ws ss used F d r o
-  more o h f hf = let q = fuel f _ hf in rw (q .1) (unrolls R u (q .0) (mapAt F m) d r (store ws ss used) ∙ h (q .0) (q .2))
-
   module _ (w : Record) (e : IsRecord ws r w) where
-    -- whatever the body answers, the lambda is written after it
-    pub walk-lambda : (o : Out ℕ) → w .tag ≡ 6 → reach R F (suc (w .a)) < reach R F (suc r) → Gives R u m ws ss used F (d + 1) (w .a) o → Gives R u m ws ss used F d r (o >>= under R 6 0)
-    walk-lambda o t lt h = more _ λ k hk. level-lambda (onHole R u k) (writer R u k) R ws (mapAt F m) d r (store ws ss used) w e t ∙ rw (h k (omega arith))
-
-    pub walk-rigid : (v : ℕ) (ws₁ ss₁ : List ℕ) (x : Walked) (ws₂ : List ℕ) (y : Walked) → Headed (mapAt F m) d w v → reach R F (size (w .b)) < reach R F (suc r)
-        → WalksList R n u m ws ss used F d (w .b) ws₁ ss₁ x → Then n (over R (w .tag) v) ws₁ x ws₂ y → WalksTerm R n u m ws ss used F d r ws₂ ss₁ y
-    walk-rigid v ws₁ ss₁ x ws₂ y t lt h p =
-        record { run = more _ λ k hk. level-rigid (onHole R u k) (writer R u k) R ws (mapAt F m) d r (store ws ss used) w e v t ∙ rw (h .run k (omega arith)) (p .run ss₁); grown = p .grown }
-
     pub walk-leaf : (v : ℕ) (ws₁ : List ℕ) (x : Walked) → Headed (mapAt F m) d w v → w .b ≡ NONE → Does n (push R (w .tag) v NONE) ws used ws₁ x → WalksTerm R n u m ws ss used F d r ws₁ ss x
-    walk-leaf v ws₁ x t z p = record { run = more _ λ k hk. level-leaf (onHole R u k) (writer R u k) R ws (mapAt F m) d r (store ws ss used) w e v t z ∙ p .run ss; grown = p .grown }
+    walk-leaf = writes-leaf (unrolls R u) R n F (mapAt F m) d r ws ss used w e
 
     pub walk-escape : (s : Found) → headOf (mapAt F m) d w ≡ s → s ≡ Nowhere → WalksTerm R n u m ws ss used F d r ws ss (Failed Escape)
     unfolding fail
     walk-escape s p q =
         let z = head-nowhere (mapAt F m) d w s p q in
-        record { run = more _ λ k hk. level-escape (onHole R u k) (writer R u k) R ws (mapAt F m) d r (store ws ss used) w e (z .0) (z .1); grown = since-failed _ _ }
+        record { run = gives-level (unrolls R u) R n F (mapAt F m) d r ws ss used _ λ k hk. level-escape (onHole R u k) (writer R u k) R ws (mapAt F m) d r (store ws ss used) w e (z .0) (z .1); grown = since-failed _ _ }
 
   pub walk-hole : (ws₁ ss₁ : List ℕ) (x : Walked) → tag ws r ≡ 9 → WalksHole R n u m ws ss used F d r ws₁ ss₁ x → WalksTerm R n u m ws ss used F d r ws₁ ss₁ x
-  walk-hole ws₁ ss₁ x t h = record { run = more _ λ k hk. level-hole (onHole R u k) (writer R u k) R ws (mapAt F m) d r (store ws ss used) t ∙ h .run k (omega arith); grown = h .grown }
+  walk-hole ws₁ ss₁ x t h = writes-hole (unrolls R u) R n F (mapAt F m) d r ws ss used ws₁ ss₁ x t (h .grown) λ k hk. h .run k (omega arith)
 
   -- an only argument is written, and then its cell
   pub walk-only : (l : ℕ) (ws₁ ss₁ : List ℕ) (x : Walked) (ws₂ : List ℕ) (y : Walked) → elements ws l ≡ r ∷ [] → suc r < size l → WalksTerm R n u m ws ss used F d r ws₁ ss₁ x

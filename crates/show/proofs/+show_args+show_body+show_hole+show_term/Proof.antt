@@ -8,11 +8,12 @@ use Rattle.places.specs.Filling.{fits-index, fits-next}
 use Rattle.invariants.specs.Rise.{reach}
 use Rattle.places.specs.Maps.{mapOf}
 use Rattle.rewrite.specs.Levels.{Headed, head-named}
-use Rattle.show.specs.Shows.{Gives, since-none, show-leaf, hole-written}
+use Rattle.show.specs.Shows.{Gives, show-leaf, hole-written}
 use Rattle.show.specs.Ready.{ReadyT, to-read, to-read-b, to-above, to-push, to-then, to-names, fall-hole, to-hole, shows-occurrence, to-name, head-kept, fall-args, to-args, shows-rigid, to-solution, to-write, fall-solution, to-term, shows-solution}
 use Rattle.rewrite.specs.Below.{Below, below-first, below-depth, below-less, below-read, below-next, below-plain, below-then}
 use Rattle.show.specs.Below.{opens, below-ends}
-use Rattle.show.specs.Each.{Turn, turn-first, turn-kept, turn-array, turn-cells, turn-ends, turn-read, turn-falls, turn-less, turn-head, room-left, turn-stops, turn-next}
+use Rattle.rewrite.specs.Each.{turn-first, turn-kept, turn-array, turn-cells, turn-ends, turn-less, room-left, turn-stops, turn-next}
+use Rattle.show.specs.Each.{Turn, splits, turn-read, turn-falls, turn-head}
 use Prim.Native.Nat.{ℕ, _+_, _*_, _<_}
 use borrow.Fn.Kinds.{In}
 use borrow.Fn.PlainCycle.{Measures, is, falls, and}
@@ -111,7 +112,7 @@ pub +show-args+show-body+show-hole+show-term-spec : {M : Type 1} → statement M
     show-args.Post
     show-args-Inv-loop
     show-args-μ-loop
-    (λ c. search turn-first)
+    (λ c. search (turn-first, splits))
     (λ c κs. search turn-read)
     (λ c κs. (search turn-falls, search turn-head))
     (λ c. search needs)
@@ -156,7 +157,7 @@ pub +show-args+show-body+show-hole+show-term-spec : {M : Type 1} → statement M
     (λ c. search needs)
     (λ c. let q = headed t (c .before .before .before .before .before .before) in search show-leaf)
     (λ c κs. (search fall-args, search to-args))
-    (λ c κs. (search to-then, search since-none))
+    (λ c κs. (search to-then, search needs))
     (λ c. search needs)
     (λ c. let q = headed t (c .before .before .before .before .before .before .before .before .before .before) in search shows-rigid))
     (λ t. show-hole-lts.spec (
@@ -196,6 +197,6 @@ pub +show-args+show-body+show-hole+show-term-spec : {M : Type 1} → statement M
     (λ c. search below-next)
     (λ c κs. (search needs, search below-plain))
     (λ c. search needs)
-    (λ c κs. (search below-then, search since-none))
+    (λ c κs. (search below-then, search needs))
     (λ c. search needs)
     (λ c. search below-ends)

@@ -6,12 +6,13 @@ use Rattle.laws.specs.Lists.{size}
 use Rattle.places.specs.Filling.{fits-index, fits-next}
 use Rattle.invariants.specs.Rise.{reach}
 use Rattle.rewrite.specs.Below.{Below, below-first, below-depth, below-less, below-read, below-next, below-plain, below-then}
-use Rattle.walk.specs.Walks.{Gives, hole-occurs, hole-keeps}
+use Rattle.walk.specs.Walks.{Gives, walk-escape, hole-occurs, hole-keeps}
 use Rattle.walk.specs.Ready.{ReadyTerm, fall-argument, fall-hole, to-read, look, in-scope, to-hole, walked-hole, to-names, to-write, walked-kept, to-follow, to-solution, to-keep, to-raise, Hopping, fall-hop, to-hop, hops}
 use Rattle.walk.specs.Below.{opens, fall-body, below-ends}
-use Rattle.walk.specs.Body.{Rigid, term-room, term-since, term-escapes, leaf-walked, body-rigid, rigid-leaf, rigid-args, fall-args, rigid-room, rigid-ends}
+use Rattle.walk.specs.Body.{Rigid, term-room, term-since, leaf-walked, body-rigid, rigid-leaf, rigid-args, fall-args, rigid-room, rigid-ends}
 use Rattle.walk.specs.First.{args-list, args-read, args-room, only-ready, fall-only, only-walked}
-use Rattle.walk.specs.Each.{Turn, turn-first, turn-kept, turn-held, turn-holds, turn-array, turn-cells, turn-ends, turn-read, turn-falls, turn-less, turn-head, room-left, turn-stops, turn-next}
+use Rattle.rewrite.specs.Each.{turn-first, turn-kept, turn-held, turn-holds, turn-array, turn-cells, turn-ends, turn-less, room-left, turn-stops, turn-next}
+use Rattle.walk.specs.Each.{Turn, splits, turn-read, turn-falls, turn-head}
 use borrow.Fn.Kinds.{In}
 use borrow.Fn.PlainCycle.{Measures, is, falls, and}
 use Rattle.walk.proofs.walk_args.Reads as walk-args
@@ -169,9 +170,9 @@ pub +walk-args+walk-argument+walk-body+walk-hole+walk-term-spec : {M : Type 1} �
     (λ c. search needs)
     (λ c. search needs)
     (λ c. search only-walked)
-    (λ c. search (turn-first, args-list))
+    (λ c. search (turn-first, splits, args-list))
     (λ c κs. search turn-read)
-    (λ c κs. let i = c .before .before .before .before .before .loop .inv in (search turn-falls, turn-head _ _ _ _ _ _ _ _ _ _ _ _ _ _ _ _ i (search needs) _ (c .before .before .read2 .ensures)))
+    (λ c κs. let i = c .before .before .before .before .before .loop .inv in (search turn-falls, turn-head i (search needs) _ (c .before .before .read2 .ensures)))
     (λ c. search needs)
     (λ c. search turn-kept)
     (λ c. search turn-held)
@@ -207,7 +208,7 @@ pub +walk-args+walk-argument+walk-body+walk-hole+walk-term-spec : {M : Type 1} �
     (λ c. search needs)
     (λ c. search needs)
     (λ c. search needs)
-    (λ c. search term-escapes)
+    (λ c. search walk-escape)
     (λ c κs. (search term-room, search term-since))
     (λ c. search needs)
     (λ c. search leaf-walked)
@@ -227,7 +228,7 @@ pub +walk-args+walk-argument+walk-body+walk-hole+walk-term-spec : {M : Type 1} �
     (λ c. search needs)
     (λ c. search needs)
     (λ c. search needs)
-    (λ c. search term-escapes)
+    (λ c. search walk-escape)
     (λ c κs. (search term-room, search term-since))
     (λ c. search needs)
     (λ c. let h = rigid t (c .before .before .before .before .before .before) in search rigid-leaf)
