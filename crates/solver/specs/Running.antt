@@ -207,7 +207,7 @@ module _ (R n : ℕ) (ws ss es : List ℕ) (k : ℕ) (a : Admits R n ws ss es k)
     unfolding leaves
     left-solved u z = rw (out (Solved u) z, leaves, m .queue)
 
-    pub left-failed : (u : ℕ) (y : Failure) (k : ℕ) (ws₂ ss₂ : List ℕ) → length ws₁ ≡ length ws → length ss₁ ≡ length ss → x ≡ Failed y → Unused n R ws₁ u → Cleared n u ws₁ ss₁ ws₂ ss₂ → number y ≡ k
+    pub left-failed : (u : ℕ) (y : Failure) (k : ℕ) (ws₂ ss₂ : List ℕ) → length ws₁ ≡ length ws → length ss₁ ≡ length ss → x ≡ Failed y → Unused n R ws₁ u u → Cleared n u ws₁ ss₁ ws₂ ss₂ → number y ≡ k
         → LeftBehind admitted ws ss qs n ws₂ ss₂ qs₁ (reply k 0 0)
     unfolding leaves
     left-failed u y k ws₂ ss₂ e f z found c q =

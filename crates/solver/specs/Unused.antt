@@ -1,5 +1,5 @@
 -- The first record that was not written; to clear what was written is to clear all.
-use Prim.Native.Nat.{ℕ, zero, suc, _+_, _-_, _*_, _<_, _≤_}
+use Prim.Native.Nat.{ℕ, zero, suc, _+_, _-_, _*_, _/_, _<_, _≤_}
 use mathlib.Core.Path.{_≡_, sym, ap, _∙_}
 use mathlib.Core.List.{List, _++_, append-assoc}
 use native.Mathlib.Omega.{arith}
@@ -12,38 +12,35 @@ use Rattle.rules.specs.Solve.{filled}
 use Rattle.invariants.specs.Floor.{Rest}
 use Rattle.solver.specs.Clearing.{Clearing, Cleared}
 
--- no record from n to u - 1 has the tag 0
-pub record Passed (n R : ℕ) (ws : List ℕ) (u : ℕ) : Type 0 where
-  pub since : n ≤ u
-  pub within : u ≤ R
-  pub written : (r : ℕ) → n ≤ r → r < u → 1 ≤ tag ws r
-
--- the first record from n on that has the tag 0, or R
-pub record Unused (n R : ℕ) (ws : List ℕ) (u : ℕ) : Type 0 where
-  pub passed : Passed n R ws u
-  pub ends : u < R → tag ws u ≡ 0
+-- the first record from n on that was not written is from `low` on and at most `high`: the one before `low` has a tag, `high` has none
+pub record Unused (n R : ℕ) (ws : List ℕ) (low high : ℕ) : Type 0 where
+  pub since : n ≤ low
+  pub order : low ≤ high
+  pub within : high ≤ R
+  pub tagged : n < low → 1 ≤ tag ws (low - 1)
+  pub blank : high < R → tag ws high ≡ 0
 
 -- the search
 module _ (n R : ℕ) (ws : List ℕ) where
-  pub passed-none : n ≤ R → Passed n R ws n
-  passed-none h = record { since = le-refl _; within = h; written = λ r lo hi. absurd (omega arith) }
+  pub unused-all : n ≤ R → Unused n R ws n R
+  unused-all h = record { since = le-refl _; order = h; within = le-refl _; tagged = λ l. absurd (omega arith); blank = λ l. absurd (omega arith) }
 
-  module _ (u : ℕ) (p : Passed n R ws u) where
-    pub passed-on : u < R → (getD ws (4 * u) 0 ≡ 0 → ⊥) → Passed n R ws (u + 1)
-    passed-on h ne = record { since = let s = p .since in omega arith; within = omega arith; written = λ r lo hi. go r lo (decLt r u) hi }
-      where
-        go : (r : ℕ) → n ≤ r → Dec (r < u) → r < u + 1 → 1 ≤ tag ws r
-        go r lo (yes l) hi = p .written r lo l
-        go r lo (no l) hi = let z : r ≡ u = omega arith in rw z (omega arith)
+  module _ (low high : ℕ) (p : Unused n R ws low high) where
+    pub unused-found : high ≤ low → Unused n R ws low low
+    unused-found h =
+        let o = p .order in
+        let z : high ≡ low = omega arith in
+        record { since = p .since; order = le-refl _; within = rw z at (p .within); tagged = p .tagged; blank = rw z at (p .blank) }
 
-    pub unused-here : getD ws (4 * u) 0 ≡ 0 → Unused n R ws u
-    unused-here e = record { passed = p; ends = λ h. e }
+    module _ (h : low < high) where
+      pub unused-lower : getD ws (4 * (low + (high - low) / 2)) 0 ≡ 0 → Unused n R ws low (low + (high - low) / 2)
+      unused-lower e = let w = p .within in record { since = p .since; order = omega arith; within = omega arith; tagged = p .tagged; blank = λ l. e }
 
-    unused-end : R ≤ u → Unused n R ws u
-    unused-end h = record { passed = p; ends = λ l. absurd (omega arith) }
-
-    pub unused-none : R ≤ u → Unused n R ws R
-    unused-none h = let w = p .within in let z : u ≡ R = omega arith in rw z at (unused-end h)
+      pub unused-higher : (getD ws (4 * (low + (high - low) / 2)) 0 ≡ 0 → ⊥) → Unused n R ws (low + (high - low) / 2 + 1) high
+      unused-higher ne =
+          let s = p .since in
+          let z : low + (high - low) / 2 + 1 - 1 ≡ low + (high - low) / 2 = omega arith in
+          record { since = omega arith; order = omega arith; within = p .within; tagged = λ l. rw z (omega arith); blank = p .blank }
 
 -- words that are x already may be filled too
 filled-one : (i k x d : ℕ) (ws : List ℕ) → i + k < length ws → getD ws (i + k) d ≡ x → filled i k x ws ≡ filled i (k + 1) x ws
@@ -60,7 +57,7 @@ filled-wider (suc m) i k x d ws h e =
     filled-one i k x d ws (omega arith) (e (i + k) (le-refl _) (omega arith)) ∙ (rw z at (filled-wider m i (k + 1) x d ws (omega arith) (λ j lo hi. e j (omega arith) (omega arith))))
 
 -- past what was written there is nothing to clear
-module _ (n R u : ℕ) (ws ss : List ℕ) (h : Clearing n R ws ss) (f : Unused n R ws u) where
+module _ (n R u : ℕ) (ws ss : List ℕ) (h : Clearing n R ws ss) (f : Unused n R ws u u) where
   all-written : (p : Rest R n ws ss) → p .used ≤ u
   all-written p = go (decLt u (p .used))
     where
@@ -68,15 +65,15 @@ module _ (n R u : ℕ) (ws ss : List ℕ) (h : Clearing n R ws ss) (f : Unused n
       go (no l) = omega arith
       go (yes l) =
           let w = p .within in
-          let t = p .tagged u (f .passed .since) l in
-          let e = f .ends (omega arith) in
+          let t = p .tagged u (f .since) l in
+          let e = f .blank (omega arith) in
           absurd (omega arith)
 
   pub cleared-all : (ws₁ ss₁ : List ℕ) → Rest R n ws ss → Cleared n u ws ss ws₁ ss₁ → Cleared n R ws ss ws₁ ss₁
   cleared-all ws₁ ss₁ p c =
       let l = all-written p in
-      let a = f .passed .since in
-      let b = f .passed .within in
+      let a = f .since in
+      let b = f .within in
       let r = h .room in
       let d = h .held in
       let k : 4 * (u - n) + 4 * (R - u) ≡ 4 * (R - n) = omega arith in
