@@ -25,7 +25,7 @@ use Rattle.invariants.specs.Copy.{Nobody}
 use Rattle.promise.specs.Admitting.{Admitted as Typed}
 use Rattle.promise.specs.Known.{known-start}
 use Rattle.store.specs.Said.{store}
-use Rattle.fill.specs.Filled.{filled-put, filled-again}
+use Rattle.store.specs.Filled.{filled-put, filled-again}
 use Rattle.checks.specs.declared.Asked.the-variants.{Solving}
 use Rattle.checks.specs.Refusing.{asks}
 use Rattle.machine.specs.declared.Ran.{Ran}

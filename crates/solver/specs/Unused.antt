@@ -1,15 +1,15 @@
 -- The first record that was not written; to clear what was written is to clear all.
-use Prim.Native.Nat.{ℕ, zero, suc, _+_, _-_, _*_, _/_, _<_, _≤_}
-use mathlib.Core.Path.{_≡_, sym, ap, _∙_}
-use mathlib.Core.List.{List, _++_, append-assoc}
+use Prim.Native.Nat.{ℕ, _+_, _-_, _*_, _/_, _<_, _≤_}
+use mathlib.Core.Path.{_≡_, sym, _∙_}
+use mathlib.Core.List.{List}
 use native.Mathlib.Omega.{arith}
 use native.Mathlib.Nat.{le-refl}
 use native.Mathlib.Decide.{decLt}
-use lib.ListN.{length, getD, take, drop, replicate, replicate-append-replicate}
-use lib.Seq.{drop-cons}
+use lib.ListN.{length, getD}
 use Rattle.rules.specs.Words.{NONE, tag}
 use Rattle.rules.specs.Solve.{filled}
 use Rattle.invariants.specs.Floor.{Rest}
+use Rattle.store.specs.Filled.{filled-wider}
 use Rattle.solver.specs.Clearing.{Clearing, Cleared}
 
 -- the first record from n on that was not written is from `low` on and at most `high`: the one before `low` has a tag, `high` has none
@@ -41,20 +41,6 @@ module _ (n R : ℕ) (ws : List ℕ) where
           let s = p .since in
           let z : low + (high - low) / 2 + 1 - 1 ≡ low + (high - low) / 2 = omega arith in
           record { since = omega arith; order = omega arith; within = p .within; tagged = λ l. rw z (omega arith); blank = p .blank }
-
--- words that are x already may be filled too
-filled-one : (i k x d : ℕ) (ws : List ℕ) → i + k < length ws → getD ws (i + k) d ≡ x → filled i k x ws ≡ filled i (k + 1) x ws
-unfolding filled
-filled-one i k x d ws h e =
-    let z : suc (i + k) ≡ i + (k + 1) = omega arith in
-    let a : drop (i + k) ws ≡ replicate 1 x ++ drop (i + (k + 1)) ws = rw (e, z) at (drop-cons ws (i + k) d h) in
-    rw a (ap (λ (r : List ℕ). take i ws ++ r) (sym (append-assoc (replicate k x) (replicate 1 x) _) ∙ ap (λ (r : List ℕ). r ++ drop (i + (k + 1)) ws) (replicate-append-replicate k 1 x)))
-
-filled-wider : (m i k x d : ℕ) (ws : List ℕ) → i + k + m ≤ length ws → ((j : ℕ) → i + k ≤ j → j < i + k + m → getD ws j d ≡ x) → filled i k x ws ≡ filled i (k + m) x ws
-filled-wider zero i k x d ws h e = let z : k + zero ≡ k = omega arith in rw z
-filled-wider (suc m) i k x d ws h e =
-    let z : k + 1 + m ≡ k + suc m = omega arith in
-    filled-one i k x d ws (omega arith) (e (i + k) (le-refl _) (omega arith)) ∙ (rw z at (filled-wider m i (k + 1) x d ws (omega arith) (λ j lo hi. e j (omega arith) (omega arith))))
 
 -- past what was written there is nothing to clear
 module _ (n R u : ℕ) (ws ss : List ℕ) (h : Clearing n R ws ss) (f : Unused n R ws u u) where

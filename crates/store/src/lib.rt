@@ -1,10 +1,11 @@
-// What the machine writes: records from the first unused number on, through the part that starts at record n, and what a part of it answers.
+// What is written into lent words: records appended through the part that starts at record n, with the answer, and a part set to one value.
 use rules::Failure;
 use table::Hole;
 ghost use mathlib.Core.Path.{_≡_};
 ghost use Prim.Native.Nat.{_+_, _*_, _<_, _≤_};
-ghost use lib.ListN.{length, getD};
+ghost use lib.ListN.{length, getD, replicate};
 ghost use Rattle.rules.specs.Store.{put as putAt, push as pushOf};
+ghost use Rattle.rules.specs.Solve.{filled};
 ghost use Rattle.store.specs.Said.{Since, Does, Then, over, under};
 
 // What a part of the machine answers: the record that it wrote and the records used, or the failure.
@@ -72,4 +73,22 @@ pub fn solution_of(solutions: &[u32], hole: Hole) -> u32
 {
     let h = hole.0 as usize;
     solutions[h]
+}
+
+// Every word becomes x.
+fn fill_all(words: &mut [u32], x: u32)
+    ensures { λ _. ⌜ replicate (length (now (words .entry))) x ≡ now (words .exit) ⌝ }
+{
+    for i in 0..words.len() {
+        words[i] = x;
+    }
+}
+
+// So many words from one on become x, the others stay: the part is lent on.
+pub fn fill(words: &mut [u32], from: usize, count: usize, x: u32)
+    requires { ⌜ from + count ≤ length (now words) ⌝ }
+    ensures { λ _. ⌜ filled from count x (now (words .entry)) ≡ now (words .exit) ⌝ }
+{
+    let end = from + count;
+    fill_all(&mut words[from..end], x);
 }

@@ -6,7 +6,7 @@ use Rattle.solver.proofs.run_machine.Statement.{statement}
 use Rattle.solver.proofs.run_machine.Tie as tie
 use Rattle.solver.proofs.run_machine.Reads as reads
 use Rattle.solver.proofs.run_machine.Lts as lts
-use Rattle.fill.proofs.fill.Reads as fill-reads
+use Rattle.store.proofs.fill.Reads as fill-reads
 use Rattle.solver.proofs.clear.Reads as clear-reads
 use Rattle.solver.proofs.pairs_of.Reads as pairs-of-reads
 use Rattle.solver.proofs.lend_pairs.Reads as lend-pairs-reads
