@@ -1,12 +1,12 @@
--- `solver::first_unused` meets its contract: the first unused record stays between the bounds.
+-- `store::first_unused` meets its contract: the first unused record stays between the bounds.
 use Prim.Native.Nat.{_-_}
 use native.Mathlib.Omega.{arith}
 use borrow.Author.Needs.{needs}
-use Rattle.solver.specs.Unused.{Unused, unused-all, unused-lower, unused-higher, unused-found}
-use Rattle.solver.proofs.first_unused.Statement.{statement}
-use Rattle.solver.proofs.first_unused.Tie as tie
-use Rattle.solver.proofs.first_unused.Reads as reads
-use Rattle.solver.proofs.first_unused.Lts as lts
+use Rattle.store.specs.Unused.{Unused, unused-all, unused-lower, unused-higher, unused-found}
+use Rattle.store.proofs.first_unused.Statement.{statement}
+use Rattle.store.proofs.first_unused.Tie as tie
+use Rattle.store.proofs.first_unused.Reads as reads
+use Rattle.store.proofs.first_unused.Lts as lts
 
 abbrev Inv-loop : tie.InvT-loop
 Inv-loop table n room low₀ high₀ low high = Unused n room table low high
