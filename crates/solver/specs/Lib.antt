@@ -1,6 +1,6 @@
 pub mod Behind  -- what is left behind, as the contracts say it
-pub mod Clearing  -- where the machine starts, and starts again
-pub mod Unused  -- the first record that was not written
+pub mod Pairs  -- how many pairs the queue words have room for
+pub mod Written  -- to clear what was written is to clear all
 pub mod Running  -- the machine on an admitted input, and what it leaves behind
 pub mod Leaving  -- what is refused, and what is admitted
 pub mod Answering  -- a hole's answer after solving

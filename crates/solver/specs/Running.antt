@@ -25,7 +25,9 @@ use Rattle.invariants.specs.Copy.{Nobody}
 use Rattle.promise.specs.Admitting.{Admitted as Typed}
 use Rattle.promise.specs.Known.{known-start}
 use Rattle.store.specs.Said.{store}
-use Rattle.fill.specs.Filled.{filled-put, filled-again}
+use Rattle.store.specs.Filled.{filled-put, filled-again}
+use Rattle.store.specs.Clearing.{Clearing, Cleared, clearing-on, clearing-table, clearing-solutions}
+use Rattle.store.specs.Unused.{Unused}
 use Rattle.checks.specs.declared.Asked.the-variants.{Solving}
 use Rattle.checks.specs.Refusing.{asks}
 use Rattle.machine.specs.declared.Ran.{Ran}
@@ -33,8 +35,8 @@ use Rattle.machine.specs.declared.Ran.the-variants.{Solved, Failed}
 use Rattle.machine.specs.Run.{ended}
 use Rattle.machine.specs.Start.{Noted, Started}
 use Rattle.solver.specs.Behind.{LeftBehind}
-use Rattle.solver.specs.Clearing.{Clearing, Cleared, clearing-on, clearing-table, clearing-solutions, pairs-held}
-use Rattle.solver.specs.Unused.{Unused, cleared-all}
+use Rattle.solver.specs.Pairs.{pairs-held}
+use Rattle.solver.specs.Written.{cleared-all}
 
 -- an admitted input, in R records, with the equations noted
 pub record Admits (R n : ℕ) (ws ss es : List ℕ) (k : ℕ) : Type 0 where
@@ -207,7 +209,7 @@ module _ (R n : ℕ) (ws ss es : List ℕ) (k : ℕ) (a : Admits R n ws ss es k)
     unfolding leaves
     left-solved u z = rw (out (Solved u) z, leaves, m .queue)
 
-    pub left-failed : (u : ℕ) (y : Failure) (k : ℕ) (ws₂ ss₂ : List ℕ) → length ws₁ ≡ length ws → length ss₁ ≡ length ss → x ≡ Failed y → Unused n R ws₁ u → Cleared n u ws₁ ss₁ ws₂ ss₂ → number y ≡ k
+    pub left-failed : (u : ℕ) (y : Failure) (k : ℕ) (ws₂ ss₂ : List ℕ) → length ws₁ ≡ length ws → length ss₁ ≡ length ss → x ≡ Failed y → Unused n R ws₁ u u → Cleared n u ws₁ ss₁ ws₂ ss₂ → number y ≡ k
         → LeftBehind admitted ws ss qs n ws₂ ss₂ qs₁ (reply k 0 0)
     unfolding leaves
     left-failed u y k ws₂ ss₂ e f z found c q =

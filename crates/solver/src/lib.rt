@@ -5,7 +5,6 @@ use checks::out_of_room;
 use checks::refuse;
 use checks::refusing;
 use checks::room_of;
-use fill::fill;
 use machine::Ran;
 use machine::machine;
 use rules::Failure;
@@ -13,8 +12,10 @@ use rules::Refused;
 use rules::Reply;
 use show::answer;
 use store::Walked;
+use store::clear;
+use store::fill;
+use store::first_unused;
 use table::Hole;
-use table::NONE;
 ghost use mathlib.Core.Path.{_≡_};
 ghost use Prim.Native.Nat.{_*_, _≤_};
 ghost use lib.ListN.{length};
@@ -24,8 +25,6 @@ ghost use Rattle.rules.specs.Show.{show as showOf};
 ghost use Rattle.machine.specs.Start.{Started};
 ghost use Rattle.checks.specs.Refusing.{refusalOf};
 ghost use Rattle.solver.specs.Behind.{LeftBehind, AskedLeaves};
-ghost use Rattle.solver.specs.Clearing.{Clearing, Cleared};
-ghost use Rattle.solver.specs.Unused.{Unused};
 ghost use Rattle.solver.specs.Running.{Machines, Runs, Admits};
 ghost use Rattle.solver.specs.Leaving.{Inside, Checking, UnlessRefused};
 ghost use Rattle.solver.specs.Answering.{Answerable, Writes, ShowReply};
@@ -39,17 +38,6 @@ fn pairs_of(queue: &[u32]) -> usize
         return k;
     }
     1024
-}
-
-// Records n to room - 1 all zero, the first `room` solution words NONE: the part of the table that starts at record n is lent on.
-fn clear(table: &mut [u32], solutions: &mut [u32], n: u32, room: u32)
-    requires { ⌜ Clearing n room (now table) (now solutions) ⌝ }
-    ensures { λ _. ⌜ Cleared n room (now (table .entry)) (now (solutions .entry)) (now (table .exit)) (now (solutions .exit)) ⌝ }
-{
-    let from = 4 * (n as usize);
-    let count = 4 * ((room - n) as usize);
-    fill(table, from, count, 0);
-    fill(solutions, 0, room as usize, NONE);
 }
 
 // This paper's number of each failure of the machine.
@@ -110,21 +98,6 @@ fn run_machine(
     let outcome = lend_pairs(table, solutions, queue, equations, count, n, room, cap);
     fill(queue, 0, 2 * cap, 0);
     outcome
-}
-
-// The first record from n on that was not written: its tag is 0.
-fn first_unused(table: &[u32], n: u32, room: u32) -> u32
-    requires { ⌜ (n ≤ room) × (4 * room ≤ length (now table)) ⌝ }
-    ensures { λ u. ⌜ Unused n room (now (table .entry)) u ⌝ }
-{
-    let mut at = n;
-    while at < room {
-        if table[4 * (at as usize)] == 0 {
-            return at;
-        }
-        at += 1;
-    }
-    room
 }
 
 // An admitted input: the reply to what the machine came to. A failure leaves table and solutions cleared: past the records written they

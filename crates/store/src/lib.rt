@@ -1,11 +1,15 @@
-// What the machine writes: records from the first unused number on, through the part that starts at record n, and what a part of it answers.
+// What is written into lent words: records appended through the part that starts at record n, with the answer; words set, records cleared.
 use rules::Failure;
 use table::Hole;
+use table::NONE;
 ghost use mathlib.Core.Path.{_≡_};
 ghost use Prim.Native.Nat.{_+_, _*_, _<_, _≤_};
-ghost use lib.ListN.{length, getD};
+ghost use lib.ListN.{length, getD, replicate};
 ghost use Rattle.rules.specs.Store.{put as putAt, push as pushOf};
+ghost use Rattle.rules.specs.Solve.{filled};
 ghost use Rattle.store.specs.Said.{Since, Does, Then, over, under};
+ghost use Rattle.store.specs.Clearing.{Clearing, Cleared};
+ghost use Rattle.store.specs.Unused.{Unused};
 
 // What a part of the machine answers: the record that it wrote and the records used, or the failure.
 pub enum Walked {
@@ -72,4 +76,51 @@ pub fn solution_of(solutions: &[u32], hole: Hole) -> u32
 {
     let h = hole.0 as usize;
     solutions[h]
+}
+
+// Every word becomes x.
+fn fill_all(words: &mut [u32], x: u32)
+    ensures { λ _. ⌜ replicate (length (now (words .entry))) x ≡ now (words .exit) ⌝ }
+{
+    for i in 0..words.len() {
+        words[i] = x;
+    }
+}
+
+// So many words from one on become x, the others stay: the part is lent on.
+pub fn fill(words: &mut [u32], from: usize, count: usize, x: u32)
+    requires { ⌜ from + count ≤ length (now words) ⌝ }
+    ensures { λ _. ⌜ filled from count x (now (words .entry)) ≡ now (words .exit) ⌝ }
+{
+    let end = from + count;
+    fill_all(&mut words[from..end], x);
+}
+
+// Records n to room - 1 all zero, the first `room` solution words NONE: the part of the table that starts at record n is lent on.
+pub fn clear(table: &mut [u32], solutions: &mut [u32], n: u32, room: u32)
+    requires { ⌜ Clearing n room (now table) (now solutions) ⌝ }
+    ensures { λ _. ⌜ Cleared n room (now (table .entry)) (now (solutions .entry)) (now (table .exit)) (now (solutions .exit)) ⌝ }
+{
+    let from = 4 * (n as usize);
+    let count = 4 * ((room - n) as usize);
+    fill(table, from, count, 0);
+    fill(solutions, 0, room as usize, NONE);
+}
+
+// The first record from n on that was not written, where the tags end: a search by halves, which reads at most 13 tags.
+pub fn first_unused(table: &[u32], n: u32, room: u32) -> u32
+    requires { ⌜ (n ≤ room) × (4 * room ≤ length (now table)) ⌝ }
+    ensures { λ u. ⌜ Unused n room (now (table .entry)) u u ⌝ }
+{
+    let mut low = n;
+    let mut high = room;
+    while low < high {
+        let middle = low + (high - low) / 2;
+        if table[4 * (middle as usize)] == 0 {
+            high = middle;
+        } else {
+            low = middle + 1;
+        }
+    }
+    low
 }

@@ -1,5 +1,5 @@
 -- `solver::pairs_of` meets its contract.
-use Rattle.solver.specs.Clearing.{pairs-less, pairs-most}
+use Rattle.solver.specs.Pairs.{pairs-less, pairs-most}
 use Rattle.solver.proofs.pairs_of.Statement.{statement}
 use Rattle.solver.proofs.pairs_of.Tie as tie
 use Rattle.solver.proofs.pairs_of.Reads as reads

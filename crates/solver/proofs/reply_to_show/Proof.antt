@@ -5,7 +5,7 @@ use Rattle.solver.proofs.reply_to_show.Statement.{statement}
 use Rattle.solver.proofs.reply_to_show.Tie as tie
 use Rattle.solver.proofs.reply_to_show.Reads as reads
 use Rattle.solver.proofs.reply_to_show.Lts as lts
-use Rattle.fill.proofs.fill.Reads as fill-reads
+use Rattle.store.proofs.fill.Reads as fill-reads
 
 pub reply-to-show-spec : {M : Type 1} → statement M
 reply-to-show-spec =

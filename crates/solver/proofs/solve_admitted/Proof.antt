@@ -5,8 +5,8 @@ use Rattle.solver.proofs.solve_admitted.Statement.{statement}
 use Rattle.solver.proofs.solve_admitted.Tie as tie
 use Rattle.solver.proofs.solve_admitted.Reads as reads
 use Rattle.solver.proofs.solve_admitted.Lts as lts
-use Rattle.solver.proofs.clear.Reads as clear-reads
-use Rattle.solver.proofs.first_unused.Reads as first-unused-reads
+use Rattle.store.proofs.clear.Reads as clear-reads
+use Rattle.store.proofs.first_unused.Reads as first-unused-reads
 use Rattle.solver.proofs.number_of.Reads as number-of-reads
 use Rattle.solver.proofs.run_machine.Reads as run-machine-reads
 

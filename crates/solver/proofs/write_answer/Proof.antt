@@ -5,7 +5,7 @@ use Rattle.solver.proofs.write_answer.Statement.{statement}
 use Rattle.solver.proofs.write_answer.Tie as tie
 use Rattle.solver.proofs.write_answer.Reads as reads
 use Rattle.solver.proofs.write_answer.Lts as lts
-use Rattle.fill.proofs.fill.Reads as fill-reads
+use Rattle.store.proofs.fill.Reads as fill-reads
 use Rattle.checks.proofs.room_of.Reads as room-of-reads
 use Rattle.show.proofs.answer.Reads as answer-reads
 use Rattle.solver.proofs.reply_to_show.Reads as reply-to-show-reads

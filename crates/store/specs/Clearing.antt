@@ -1,13 +1,10 @@
--- Where the machine starts: records n to R - 1 all zero, the first R solution words NONE.
-use Prim.Native.Nat.{ℕ, _+_, _-_, _*_, _/_, _<_, _≤_}
+-- Records n to R - 1 all zero, the first R solution words NONE: where the machine starts.
+use Prim.Native.Nat.{ℕ, _+_, _-_, _*_, _≤_}
 use mathlib.Core.Path.{_≡_}
 use mathlib.Core.List.{List}
 use native.Mathlib.Omega.{arith}
 use lib.ListN.{length}
-use mir.Syntax.{w64}
-use mir.Val.{Fits}
 use Rattle.rules.specs.Words.{NONE}
-use Rattle.rules.specs.Answers.{pairs}
 use Rattle.rules.specs.Solve.{filled}
 
 -- what clearing asks
@@ -34,25 +31,3 @@ module _ (n R : ℕ) (ws ss : List ℕ) (h : Clearing n R ws ss) where
 
 pub cleared : (n R : ℕ) (ws ss ws₁ ss₁ : List ℕ) → filled (4 * n) (4 * (R - n)) 0 ws ≡ ws₁ → filled 0 R NONE ss ≡ ss₁ → Cleared n R ws ss ws₁ ss₁
 cleared n R ws ss ws₁ ss₁ e f = record { table = e; solutions = f }
-
--- C
-module _ (qs : List ℕ) where
-  pub pairs-less : (k : ℕ) → length qs / 2 ≡ k → k < 1024 → pairs qs ≡ k
-  unfolding pairs
-  pairs-less k e h = omega arith
-
-  pub pairs-most : (k : ℕ) → length qs / 2 ≡ k → 1024 ≤ k → pairs qs ≡ 1024
-  unfolding pairs
-  pairs-most k e h = omega arith
-
-  pub pairs-held : (C : ℕ) → pairs qs ≡ C → 2 * C ≤ length qs
-  unfolding pairs
-  pairs-held C e = omega arith
-
-  module _ (C : ℕ) (e : pairs qs ≡ C) where
-    pub pairs-fit : Fits w64 (2 * C)
-    unfolding pairs
-    pairs-fit = record { fits = omega arith }
-
-    pub pairs-filled : (qs₁ : List ℕ) → length qs₁ ≡ length qs → 0 + 2 * C ≤ length qs₁
-    pairs-filled qs₁ l = let h = pairs-held C e in omega arith

@@ -1,10 +1,10 @@
--- `solver::clear` meets its contract.
+-- `store::clear` meets its contract.
 use borrow.Author.Needs.{needs}
-use Rattle.solver.specs.Clearing.{cleared}
-use Rattle.solver.proofs.clear.Statement.{statement}
-use Rattle.solver.proofs.clear.Tie as tie
-use Rattle.solver.proofs.clear.Reads as reads
-use Rattle.solver.proofs.clear.Lts as lts
+use Rattle.store.specs.Clearing.{cleared}
+use Rattle.store.proofs.clear.Statement.{statement}
+use Rattle.store.proofs.clear.Tie as tie
+use Rattle.store.proofs.clear.Reads as reads
+use Rattle.store.proofs.clear.Lts as lts
 
 pub clear-spec : {M : Type 1} → statement M
 clear-spec =

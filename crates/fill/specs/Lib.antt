@@ -1,1 +1,0 @@
-pub mod Filled  -- a part whose words were set, and what it makes of the whole
