@@ -19,14 +19,10 @@ use Rattle.invariants.specs.Rise.{reach}
 use Rattle.store.specs.Said.{store, shown, since-failed, Does}
 use Rattle.narrow.specs.Cells.{Celling}
 use Rattle.narrow.specs.Each.{writeRest, writes-all, rest-end, rest-stops, rest-goes}
-use Rattle.rewrite.specs.Writes.{WritesT, WritesL}
+use Rattle.rewrite.specs.Terms.{IsCell}
+use Rattle.rewrite.specs.Writes.{WritesTerm, WritesList}
 
--- w is the record of list l, of the words ws: an element and a rest, both lower
-pub record Cell (ws : List ℕ) (l : ℕ) (w : Record) : Type 0 where
-  pub list : elements ws l ≡ w .a ∷ elements ws (w .b)
-  pub lower : (suc (w .a) < size l) × (size (w .b) < size l)
-
--- arguments at depth d of the words that are read are written under map m, to R records from n on
+-- arguments at depth d of the words that are read are written under map m, to R records from n on; `term` and `list` say what is ready in a store
 module _ (write : ℕ → Writer) (reads : Store → List ℕ) (term list : Store → ℕ → Type 0) (R T n F : ℕ) (m : Map) (d : ℕ) where
   -- what a list that is ready in a store says of itself, of its first element, and of its rest after that was written
   pub record Splits : Type 0 where
@@ -34,9 +30,9 @@ module _ (write : ℕ → Writer) (reads : Store → List ℕ) (term list : Stor
     pub since : (s : Store) (l : ℕ) → list s l → n ≤ s .used
     pub few : (s : Store) (l : ℕ) → list s l → length (elements (reads s) l) ≤ 16
     pub read : (s : Store) (l : ℕ) → list s l → (l ≡ NONE → ⊥) → 4 * l + 3 < length (reads s)
-    pub cell : (s : Store) (l : ℕ) → list s l → (l ≡ NONE → ⊥) → (w : Record) → IsRecord (reads s) l w → Cell (reads s) l w
-    pub first : (s : Store) (l : ℕ) → list s l → (l ≡ NONE → ⊥) → (w : Record) → IsRecord (reads s) l w → Cell (reads s) l w → term s (w .a)
-    pub rest : (s : Store) (l : ℕ) → list s l → (l ≡ NONE → ⊥) → (w : Record) → IsRecord (reads s) l w → Cell (reads s) l w
+    pub cell : (s : Store) (l : ℕ) → list s l → (l ≡ NONE → ⊥) → (w : Record) → IsRecord (reads s) l w → IsCell (reads s) l w
+    pub first : (s : Store) (l : ℕ) → list s l → (l ≡ NONE → ⊥) → (w : Record) → IsRecord (reads s) l w → IsCell (reads s) l w → term s (w .a)
+    pub rest : (s : Store) (l : ℕ) → list s l → (l ≡ NONE → ⊥) → (w : Record) → IsRecord (reads s) l w → IsCell (reads s) l w
         → (s₁ : Store) (y : ℕ) → write (suc (reach T F (suc (w .a)))) m d (w .a) s ≡ goes s₁ y → length (s₁ .words) ≡ length (s .words)
         → list s₁ (w .b) × (elements (reads s₁) (w .b) ≡ elements (reads s) (w .b))
 
@@ -79,7 +75,7 @@ module _ {write : ℕ → Writer} {reads : Store → List ℕ} {term list : Stor
     pub turn-cells : Celling ws n used R noted k
     turn-cells = let f = h .few in let z = h .array in record { room = h .splits .room s l (h .ready); since = h .splits .since s l (h .ready); few = omega arith }
 
-    pub turn-ends : (ws₁ : List ℕ) (x : Walked) → l ≡ NONE → Does n (pushCells R (take k noted)) ws used ws₁ x → WritesL write reads R T n F m d l₀ (store ws₀ ss₀ used₀) ws₁ ss x
+    pub turn-ends : (ws₁ : List ℕ) (x : Walked) → l ≡ NONE → Does n (pushCells R (take k noted)) ws used ws₁ x → WritesList write reads R T n F m d l₀ (store ws₀ ss₀ used₀) ws₁ ss x
     turn-ends ws₁ x e p = record { run = λ f hf. h .leads f hf ∙ rw (elements-none (reads s) l e) (rest-end (write f) R m d (take k noted) s ∙ p .run ss); grown = p .grown }
 
     -- a cell is left
@@ -88,7 +84,7 @@ module _ {write : ℕ → Writer} {reads : Store → List ℕ} {term list : Stor
       turn-read = h .splits .read s l (h .ready) ne
 
       module _ (w : Record) (e : IsRecord (reads s) l w) where
-        cell : Cell (reads s) l w
+        cell : IsCell (reads s) l w
         cell = h .splits .cell s l (h .ready) ne w e
 
         few : (k + 1) + length (elements (reads s) (w .b)) ≤ 16
@@ -106,11 +102,11 @@ module _ {write : ℕ → Writer} {reads : Store → List ℕ} {term list : Stor
         pub turn-head : term s (w .a)
         turn-head = h .splits .first s l (h .ready) ne w e cell
 
-        module _ (ws₁ ss₁ : List ℕ) (x : Walked) (p : WritesT write T n F m d (w .a) s ws₁ ss₁ x) where
+        module _ (ws₁ ss₁ : List ℕ) (x : Walked) (p : WritesTerm write T n F m d (w .a) s ws₁ ss₁ x) where
           gives : (f : ℕ) → reach T F (size l₀) ≤ f → write f m d (w .a) s ≡ shown ws₁ ss₁ x
           gives f hf = let a = turn-lower in p .run f (omega arith)
 
-          pub turn-stops : (e₁ : Failure) → x ≡ Failed e₁ → WritesL write reads R T n F m d l₀ (store ws₀ ss₀ used₀) ws₁ ss₁ (Failed e₁)
+          pub turn-stops : (e₁ : Failure) → x ≡ Failed e₁ → WritesList write reads R T n F m d l₀ (store ws₀ ss₀ used₀) ws₁ ss₁ (Failed e₁)
           turn-stops e₁ q =
               record {
                 run = λ f hf. h .leads f hf ∙ rw (cell .list) (rest-stops (write f) R m d (take k noted) (w .a) (elements (reads s) (w .b)) s ws₁ ss₁ e₁ (gives f hf ∙ ap (shown ws₁ ss₁) q));

@@ -130,7 +130,3 @@ module _ (R n : ℕ) (home : ℕ → ℕ) (ws ss : List ℕ) (used b l : ℕ) (f
           let c = cell-at .rest in
           let i = is .here ne .0 in
           (al .0, record { here = rw (e .b-is) (λ q. let d = c q .0 in (omega arith, c q .1)); all = al .1 })
-
-      -- one more element is counted
-      pub room-at : (k : ℕ) → k + length (elements ws l) ≤ 16 → (k + 1) + length (elements ws (w .b)) ≤ 16
-      room-at k h = let c : k + length (w .a ∷ elements ws (w .b)) ≤ 16 = rw list-is at h in omega arith

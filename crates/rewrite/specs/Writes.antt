@@ -15,16 +15,16 @@ use Rattle.invariants.specs.Rise.{reach}
 use Rattle.store.specs.Said.{store, shown, Since, Does, Then, over, under}
 use Rattle.rewrite.specs.Levels.{fuel, Headed, level-lambda, level-rigid, level-leaf, level-hole}
 
--- with fuel enough, which is above the reach of its number up to T and above the floor F, a term is written as this
+-- with fuel enough, above the measure of T records over the floor F, a term is written as this
 abbrev pub Gives : (ℕ → Writer) → ℕ → ℕ → Map → ℕ → ℕ → Store → Out ℕ → Type 0
 Gives write T F m d r s o = (f : ℕ) → reach T F (suc r) < f → write f m d r s ≡ o
 
--- with fuel enough, a term, and a list of the words that are read, are written so, and at least n records are used
-pub record WritesT (write : ℕ → Writer) (T n F : ℕ) (m : Map) (d r : ℕ) (s : Store) (ws₁ ss₁ : List ℕ) (x : Walked) : Type 0 where
+-- with fuel enough, a term and a list of the words that are read are written so, and at least n records are used
+pub record WritesTerm (write : ℕ → Writer) (T n F : ℕ) (m : Map) (d r : ℕ) (s : Store) (ws₁ ss₁ : List ℕ) (x : Walked) : Type 0 where
   pub run : Gives write T F m d r s (shown ws₁ ss₁ x)
   pub grown : Since n x
 
-pub record WritesL (write : ℕ → Writer) (reads : Store → List ℕ) (R T n F : ℕ) (m : Map) (d l : ℕ) (s : Store) (ws₁ ss₁ : List ℕ) (x : Walked) : Type 0 where
+pub record WritesList (write : ℕ → Writer) (reads : Store → List ℕ) (R T n F : ℕ) (m : Map) (d l : ℕ) (s : Store) (ws₁ ss₁ : List ℕ) (x : Walked) : Type 0 where
   pub run : (f : ℕ) → reach T F (size l) ≤ f → writeAll (write f) R m d (elements (reads s) l) s ≡ shown ws₁ ss₁ x
   pub grown : Since n x
 
@@ -39,7 +39,7 @@ module _ {write hole : ℕ → Writer} {reads : Store → List ℕ} {R : ℕ} (u
   pub gives-level : (o : Out ℕ) → ((k : ℕ) → reach T F (suc r) ≤ k → writeTerm (hole k) (write k) R (reads s) m d r s ≡ o) → Gives write T F m d r s o
   gives-level o h f hf = let q = fuel f _ hf in rw (q .1) (u .level (q .0) m d r s ∙ h (q .0) (q .2))
 
-  pub writes-hole : (ws₁ ss₁ : List ℕ) (x : Walked) → tag (reads s) r ≡ 9 → Since n x → ((k : ℕ) → reach T F (suc r) ≤ k → hole k m d r s ≡ shown ws₁ ss₁ x) → WritesT write T n F m d r s ws₁ ss₁ x
+  pub writes-hole : (ws₁ ss₁ : List ℕ) (x : Walked) → tag (reads s) r ≡ 9 → Since n x → ((k : ℕ) → reach T F (suc r) ≤ k → hole k m d r s ≡ shown ws₁ ss₁ x) → WritesTerm write T n F m d r s ws₁ ss₁ x
   writes-hole ws₁ ss₁ x t g h = record { run = gives-level _ λ k hk. level-hole (hole k) (write k) R (reads s) m d r s t ∙ h k hk; grown = g }
 
   module _ (w : Record) (e : IsRecord (reads s) r w) where
@@ -47,10 +47,10 @@ module _ {write hole : ℕ → Writer} {reads : Store → List ℕ} {R : ℕ} (u
     pub gives-lambda : (o : Out ℕ) → w .tag ≡ 6 → w .a < r → Gives write T F m (d + 1) (w .a) s o → Gives write T F m d r s (o >>= under R 6 0)
     gives-lambda o t lt h = gives-level _ λ k hk. level-lambda (hole k) (write k) R (reads s) m d r s w e t ∙ rw (h k (omega arith))
 
-    pub writes-rigid : (v : ℕ) (ws₁ ss₁ : List ℕ) (x : Walked) (ws₂ : List ℕ) (y : Walked) → Headed m d w v → size (w .b) ≤ r → WritesL write reads R T n F m d (w .b) s ws₁ ss₁ x
-        → Then n (over R (w .tag) v) ws₁ x ws₂ y → WritesT write T n F m d r s ws₂ ss₁ y
+    pub writes-rigid : (v : ℕ) (ws₁ ss₁ : List ℕ) (x : Walked) (ws₂ : List ℕ) (y : Walked) → Headed m d w v → size (w .b) ≤ r → WritesList write reads R T n F m d (w .b) s ws₁ ss₁ x
+        → Then n (over R (w .tag) v) ws₁ x ws₂ y → WritesTerm write T n F m d r s ws₂ ss₁ y
     writes-rigid v ws₁ ss₁ x ws₂ y t lt h p =
         record { run = gives-level _ λ k hk. level-rigid (hole k) (write k) R (reads s) m d r s w e v t ∙ rw (h .run k (omega arith)) (p .run ss₁); grown = p .grown }
 
-    pub writes-leaf : (v : ℕ) (ws₁ : List ℕ) (x : Walked) → Headed m d w v → w .b ≡ NONE → Does n (push R (w .tag) v NONE) ws used ws₁ x → WritesT write T n F m d r s ws₁ ss x
+    pub writes-leaf : (v : ℕ) (ws₁ : List ℕ) (x : Walked) → Headed m d w v → w .b ≡ NONE → Does n (push R (w .tag) v NONE) ws used ws₁ x → WritesTerm write T n F m d r s ws₁ ss x
     writes-leaf v ws₁ x t z p = record { run = gives-level _ λ k hk. level-leaf (hole k) (write k) R (reads s) m d r s w e v t z ∙ p .run ss; grown = p .grown }

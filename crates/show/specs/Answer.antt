@@ -20,8 +20,8 @@ use Rattle.store.specs.Said.{store, shown}
 use Rattle.places.specs.Maps.{mapOf}
 use Rattle.places.specs.Lists.{Counts}
 use Rattle.places.specs.Arguments.{Ordered}
-use Rattle.show.specs.Shows.{ShowsH}
-use Rattle.show.specs.Ready.{Final, ReadyH}
+use Rattle.show.specs.Shows.{ShowsHole}
+use Rattle.show.specs.Ready.{Final, ReadyHole}
 
 from-low : (i k T : ℕ) → i + k ≤ T → All (λ v. v ≤ T) (from i k)
 unfolding from
@@ -48,7 +48,7 @@ module _ {O : ℕ} {ws ss os : List ℕ} {h : ℕ} (a : Answering O ws ss os h) 
       is-order : mapOf false m ≡ toVariables 0 (below (length (elements ws (fieldA ws h))))
       is-order = rw (← e .a-is) (o .run)
 
-      pub answer-ready : ReadyH O m ws ss os 1 h
+      pub answer-ready : ReadyHole O m ws ss os 1 h
       unfolding below
       answer-ready =
           let f = a .context .few in
@@ -72,6 +72,6 @@ module _ {O : ℕ} {ws ss os : List ℕ} {h : ℕ} (a : Answering O ws ss os h) 
             known = rw is-order (a .known);
           }
 
-      pub answered : (os₁ : List ℕ) (x : Walked) → ShowsH O m ws ss os 0 1 h os₁ x → answer O ws h (store os ss 0) ≡ shown os₁ ss x
+      pub answered : (os₁ : List ℕ) (x : Walked) → ShowsHole O m ws ss os 0 1 h os₁ x → answer O ws h (store os ss 0) ≡ shown os₁ ss x
       unfolding answer
       answered os₁ x p = rw (← is-order) (p .run enough (omega arith))

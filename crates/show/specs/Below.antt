@@ -7,24 +7,25 @@ use Rattle.store.specs.declared.Walked.{Walked}
 use Rattle.table.specs.declared.Record.{Record}
 use Rattle.places.specs.declared.Map.{Map}
 use Rattle.places.specs.Maps.{mapOf}
+use Rattle.rewrite.specs.Terms.{at-less}
 use Rattle.rewrite.specs.Lambdas.{Under}
 use Rattle.rewrite.specs.Below.{Opens, Below, below-gives}
 use Rattle.rewrite.specs.Writes.{gives-lambda}
-use Rattle.show.specs.Shows.{unrolls, Gives, ShowsT}
-use Rattle.show.specs.Ready.{ReadyT, to-read, body-less, to-body}
+use Rattle.show.specs.Shows.{unrolls, Gives, ShowsTerm}
+use Rattle.show.specs.Ready.{ReadyTerm, to-read, to-body}
 
 module _ {O : ℕ} {m : Map} {ws ss os : List ℕ} (used : ℕ) {F : ℕ} where
-  pub opens : Opens (ReadyT O m ws ss os F) (λ s. Gives O m ws s os used F) O ws os
+  pub opens : Opens (ReadyTerm O m ws ss os F) (λ s. Gives O m ws s os used F) O ws os
   opens =
       record {
         depth = λ d r h. let f = h .on .fits in record { fits = omega arith };
         read = λ d r h. to-read h;
         room = λ d r h. h .on .room;
-        less = λ d r w e t h. body-less w e h t;
-        body = λ d r w e t h. to-body w e h t;
+        less = λ d r w e t h. at-less (h .at) w e t;
+        body = λ d r w e t h. to-body w e t h;
         over = λ d r w e t k s o g. gives-lambda (unrolls O ws) 4096 0 F (mapOf false m) d r os s used w e o t k g;
       }
 
-  module _ {d₀ r₀ d r : ℕ} {w : Record} (h : Below (ReadyT O m ws ss os F) (λ s. Gives O m ws s os used F) O ws os d₀ r₀ d r w) where
-    pub below-ends : (os₁ : List ℕ) (x : Walked) (os₂ : List ℕ) (y : Walked) → ShowsT O m ws ss os used F d r os₁ x → Under 0 O (d - d₀) os₁ x os₂ y → ShowsT O m ws ss os used F d₀ r₀ os₂ y
+  module _ {d₀ r₀ d r : ℕ} {w : Record} (h : Below (ReadyTerm O m ws ss os F) (λ s. Gives O m ws s os used F) O ws os d₀ r₀ d r w) where
+    pub below-ends : (os₁ : List ℕ) (x : Walked) (os₂ : List ℕ) (y : Walked) → ShowsTerm O m ws ss os used F d r os₁ x → Under 0 O (d - d₀) os₁ x os₂ y → ShowsTerm O m ws ss os used F d₀ r₀ os₂ y
     below-ends os₁ x os₂ y p q = record { run = below-gives h 0 ss ss os₁ x os₂ y (p .run) q; grown = q .grown }

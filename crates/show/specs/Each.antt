@@ -1,52 +1,44 @@
 -- What showing an argument list asks, argument by argument.
-use Prim.Native.Nat.{ℕ, suc, _+_, _*_, _<_, _≤_}
+use Prim.Native.Nat.{ℕ, suc, _+_, _*_, _<_}
 use mathlib.Core.Path.{_≡_, refl}
-use mathlib.Core.List.{List, _∷_}
+use mathlib.Core.List.{List}
 use mathlib.Core.Bool.{false}
 use native.Mathlib.Omega.{arith}
 use lib.ListN.{length}
 use Rattle.table.specs.declared.Record.{Record}
 use Rattle.table.specs.Reading.{IsRecord}
 use Rattle.places.specs.declared.Map.{Map}
-use Rattle.rules.specs.Words.{NONE, elements}
+use Rattle.rules.specs.Words.{NONE}
 use Rattle.rules.specs.Store.{Store}
 use Rattle.rules.specs.Show.{showTerm}
 use Rattle.laws.specs.Lists.{size}
-use Rattle.invariants.specs.Floor.{Sub, Args}
 use Rattle.invariants.specs.Rise.{reach}
-use Rattle.promise.specs.WalkKnown.{walk-first, walk-second}
 use Rattle.places.specs.Maps.{mapOf}
-use Rattle.rewrite.specs.Parts.{cell-read, lower-at, list-is, both-at}
+use Rattle.rewrite.specs.Terms.{list-read, list-cell, list-first, list-second}
 use Rattle.rewrite.specs.Each.{Splits, Turn as Loop, turn-read as read, turn-head as head, turn-lower as lower}
-use Rattle.show.specs.Ready.{ReadyT, ReadyL, on-part}
+use Rattle.show.specs.Ready.{ReadyTerm, ReadyList, on-part}
 
 module _ (O : ℕ) (m : Map) (ws ss : List ℕ) (F d : ℕ) where
   abbrev Term : Store → ℕ → Type 0
-  Term s r = ReadyT O m ws ss (s .words) F d r
+  Term s r = ReadyTerm O m ws ss (s .words) F d r
 
   abbrev All : Store → ℕ → Type 0
-  All s l = ReadyL O m ws ss (s .words) F d l
-
-  parts : (s : Store) (l : ℕ) (h : All s l) → (l ≡ NONE → ⊥) → (w : Record) → IsRecord ws l w → Sub ws (h .table .home) F (h .table .used) (w .a) × Args ws (h .table .home) F (h .table .used) (w .b)
-  parts s l h ne w e = let t = h .table in both-at (t .R) (t .n) (t .home) ws ss (t .used) F l (t .fine) (h .is) ne w e
+  All s l = ReadyList O m ws ss (s .words) F d l
 
   pub splits : Splits (λ f. showTerm f O ws) (λ _. ws) Term All O 4096 0 F (mapOf false m) d
   splits =
       record {
         room = λ s l h. h .on .room;
         since = λ s l h. omega arith;
-        few = λ s l h. h .few;
-        read = λ s l h. let t = h .table in cell-read (t .R) (t .n) (t .home) ws ss (t .used) F l (t .fine) (h .is);
-        cell = λ s l h ne w e.
-            let t = h .table in
-            record { list = list-is (t .R) (t .n) (t .home) ws ss (t .used) F l (t .fine) (h .is) ne w e; lower = lower-at (t .R) (t .n) (t .home) ws ss (t .used) F l (t .fine) (h .is) ne w e };
+        few = λ s l h. h .at .few;
+        read = λ s l h. list-read (h .at);
+        cell = λ s l h. list-cell (h .at);
         first = λ s l h ne w e c.
             let a = c .lower .0 in
-            record { table = h .table; is = parts s l h ne w e .0; on = on-part d (suc (w .a)) (s .words) (h .on) refl (omega arith); scope = h .scope; full = h .full; known = rw (e .a-is) (walk-first ne (h .known)) };
+            record { table = h .table; scope = h .scope; at = list-first (h .at) ne w e; on = on-part d (suc (w .a)) (s .words) (h .on) refl (omega arith); full = h .full };
         rest = λ s l h ne w e c s₁ y g lw.
             let b = c .lower .1 in
-            let k : length (w .a ∷ elements ws (w .b)) ≤ 16 = rw (c .list) at (h .few) in
-            (record { table = h .table; is = parts s l h ne w e .1; few = omega arith; on = on-part d (size (w .b)) (s₁ .words) (h .on) lw (omega arith); scope = h .scope; full = h .full; known = rw (e .b-is) (walk-second ne (h .known)) }, refl);
+            (record { table = h .table; scope = h .scope; at = list-second (h .at) ne w e; on = on-part d (size (w .b)) (s₁ .words) (h .on) lw (omega arith); full = h .full }, refl);
       }
 
 -- after k arguments: what they were written as, and what is left
@@ -60,5 +52,5 @@ module _ {O : ℕ} {m : Map} {ws ss os₀ : List ℕ} {used₀ F d l₀ : ℕ} {
   pub turn-falls : (w : Record) → IsRecord ws l w → (t : ℕ) → 2 * reach 4096 F (size l₀) ≡ t → 2 * reach 4096 F (suc (w .a)) + 1 < t
   turn-falls w e t z = let a = lower h ne w e in omega arith
 
-  pub turn-head : (w : Record) → IsRecord ws l w → ReadyT O m ws ss os F d (w .a)
+  pub turn-head : (w : Record) → IsRecord ws l w → ReadyTerm O m ws ss os F d (w .a)
   turn-head w e = head h ne w e

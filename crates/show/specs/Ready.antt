@@ -4,7 +4,6 @@ use mathlib.Core.Path.{_≡_, refl, sym, _∙_}
 use mathlib.Core.List.{List}
 use mathlib.Core.Bool.{false}
 use native.Mathlib.Omega.{arith}
-use native.Mathlib.Decide.{ℕ-discrete}
 use lib.ListN.{length, getD}
 use mir.Syntax.{w32}
 use mir.Val.{Fits}
@@ -12,13 +11,11 @@ use Rattle.store.specs.declared.Walked.{Walked}
 use Rattle.table.specs.declared.Record.{Record}
 use Rattle.table.specs.Reading.{IsRecord}
 use Rattle.places.specs.declared.Map.{Map}
-use Rattle.rules.specs.Words.{NONE, tag, fieldA, fieldB, elements, arguments, variables}
+use Rattle.rules.specs.Words.{NONE, tag, fieldA, arguments, variables}
 use Rattle.laws.specs.Lists.{size}
-use Rattle.invariants.specs.Floor.{Sub, Args, Fine}
-use Rattle.invariants.specs.Grow.{sub-less, args-less}
+use Rattle.invariants.specs.Floor.{Sub, Fine}
 use Rattle.invariants.specs.Places.{Low, followed}
 use Rattle.invariants.specs.Rise.{reach, raised-on, Rises, rises}
-use Rattle.promise.specs.WalkKnown.{WalkKnown, WalkAllKnown, walk-body, walk-constant, walk-variable}
 use Rattle.promise.specs.CopyKnown.{Full, full-place, full-arguments}
 use Rattle.promise.specs.ShowKnown.{HoleKnown, full-hole}
 use Rattle.store.specs.Said.{store, Then, over}
@@ -30,9 +27,10 @@ use Rattle.narrow.specs.Writing.{Writing}
 use Rattle.rewrite.specs.Renamed.{Renaming}
 use Rattle.rewrite.specs.Renamings.{Renamings}
 use Rattle.rewrite.specs.Levels.{Headed, of-constant}
-use Rattle.rewrite.specs.Parts.{term-read, body-at, args-at, size-args, few-at, counts-at}
+use Rattle.rewrite.specs.Parts.{counts-at}
+use Rattle.rewrite.specs.Terms.{TermAt, ListAt, at-read, at-low, at-less, at-body, at-variable, at-size, at-args}
 use Rattle.rewrite.specs.Writes.{writes-rigid}
-use Rattle.show.specs.Shows.{unrolls, ShowsT, ShowsL, ShowsH, show-occurrence, hole-expanded}
+use Rattle.show.specs.Shows.{unrolls, ShowsTerm, ShowsList, ShowsHole, show-occurrence, hole-expanded}
 
 -- the table that is read: of a final store of the machine
 pub record Final (ws ss : List ℕ) : Type 0 where
@@ -52,29 +50,28 @@ pub record On (O : ℕ) (m : Map) (os : List ℕ) (F d k : ℕ) : Type 0 where
   pub floor : 1 ≤ F
 
 -- a term; its scope is the number of variables outside its lambdas, and the map has a place for each of them
-pub record ReadyT (O : ℕ) (m : Map) (ws ss os : List ℕ) (F d r : ℕ) : Type 0 where
+pub record ReadyTerm (O : ℕ) (m : Map) (ws ss os : List ℕ) (F d r : ℕ) : Type 0 where
   pub table : Final ws ss
-  pub is : Sub ws (table .home) F (table .used) r
-  pub on : On O m os F d (suc r)
   pub scope : ℕ
+  pub at : TermAt (table .R) (table .n) (table .home) ws ss (table .used) F scope d r
+  pub on : On O m os F d (suc r)
   pub full : Full (mapOf false m) scope
-  pub known : WalkKnown (table .R) (store ws ss (table .used)) scope d r
 
 -- a term that is no lambda
-pub record ReadyB (O : ℕ) (m : Map) (ws ss os : List ℕ) (F d r : ℕ) : Type 0 where
-  pub on : ReadyT O m ws ss os F d r
+pub record ReadyBody (O : ℕ) (m : Map) (ws ss os : List ℕ) (F d r : ℕ) : Type 0 where
+  pub on : ReadyTerm O m ws ss os F d r
   pub plain : tag ws r ≡ 6 → ⊥
 
-pub record ReadyL (O : ℕ) (m : Map) (ws ss os : List ℕ) (F d l : ℕ) : Type 0 where
+-- a list
+pub record ReadyList (O : ℕ) (m : Map) (ws ss os : List ℕ) (F d l : ℕ) : Type 0 where
   pub table : Final ws ss
-  pub is : Args ws (table .home) F (table .used) l
-  pub few : length (elements ws l) ≤ 16
-  pub on : On O m os F d (size l)
   pub scope : ℕ
+  pub at : ListAt (table .R) (table .n) (table .home) ws ss (table .used) F scope d l
+  pub on : On O m os F d (size l)
   pub full : Full (mapOf false m) scope
-  pub known : WalkAllKnown (table .R) (store ws ss (table .used)) scope d l
 
-pub record ReadyH (O : ℕ) (m : Map) (ws ss os : List ℕ) (F h : ℕ) : Type 0 where
+-- a hole
+pub record ReadyHole (O : ℕ) (m : Map) (ws ss os : List ℕ) (F h : ℕ) : Type 0 where
   pub table : Final ws ss
   pub held : h < length ss
   pub is : (getD ss h NONE ≡ NONE → ⊥) → Sub ws (table .home) F (table .used) (getD ss h NONE)
@@ -93,40 +90,17 @@ module _ {O : ℕ} {m : Map} {os : List ℕ} {F d k : ℕ} where
       record { room = omega arith; whole = o .whole; top = o .top; low = o .low; fits = omega arith; floor = o .floor }
 
 module _ {O : ℕ} {m : Map} {ws ss os : List ℕ} {F d r : ℕ} where
-  module _ (h : ReadyT O m ws ss os F d r) where
-    pub to-read : 4 * r + 3 < length ws
-    to-read = let t = h .table in term-read (t .R) (t .n) (t .home) ws ss (t .used) F r (t .fine) (h .is)
-
-    low-at : r < 4096
-    low-at = let b = h .is .below in let f = h .table .fine in let w = f .within in let c = f .few in omega arith
+  pub to-read : ReadyTerm O m ws ss os F d r → 4 * r + 3 < length ws
+  to-read h = at-read (h .at)
 
   -- the body of a lambda
-  module _ (w : Record) (e : IsRecord ws r w) (h : ReadyT O m ws ss os F d r) where
-    module _ (k : w .tag ≡ 6) where
-      body : Sub ws (h .table .home) F r (w .a)
-      body = let b = h .table in body-at (b .R) (b .n) (b .home) ws ss (b .used) F r (b .fine) (h .is) w e k
-
-      pub body-less : w .a < r
-      body-less = body .below
-
-      pub to-body : ReadyT O m ws ss os F (d + 1) (w .a)
-      to-body =
-          let b = body .below in
-          let i = h .is .below in
-          record {
-            table = h .table;
-            is = sub-less ws (h .table .home) F F r (h .table .used) (w .a) body (omega arith) (omega arith);
-            on = on-part (d + 1) (suc (w .a)) os (h .on) refl (omega arith);
-            scope = h .scope;
-            full = h .full;
-            known = rw (e .a-is) (walk-body (h .known) (sym (e .tag-is) ∙ k));
-          }
+  pub to-body : (w : Record) → IsRecord ws r w → w .tag ≡ 6 → ReadyTerm O m ws ss os F d r → ReadyTerm O m ws ss os F (d + 1) (w .a)
+  to-body w e k h =
+      let l = at-less (h .at) w e k in
+      record { table = h .table; scope = h .scope; at = at-body (h .at) w e k; on = on-part (d + 1) (suc (w .a)) os (h .on) refl (omega arith); full = h .full }
 
   -- a term that is no lambda
-  module _ (h : ReadyB O m ws ss os F d r) where
-    pub to-read-b : 4 * r + 3 < length ws
-    to-read-b = to-read (h .on)
-
+  module _ (h : ReadyBody O m ws ss os F d r) where
     pub to-push : 4 * O ≤ length os
     to-push = h .on .on .room
 
@@ -134,59 +108,32 @@ module _ {O : ℕ} {m : Map} {ws ss os : List ℕ} {F d r : ℕ} where
     to-then os₁ e = let c = h .on .on .room in omega arith
 
     pub to-above : Fits w32 (r + 1)
-    to-above = let l = low-at (h .on) in record { fits = omega arith }
+    to-above = let l = at-low (h .on .at) in record { fits = omega arith }
 
-  module _ (w : Record) (e : IsRecord ws r w) (h : ReadyB O m ws ss os F d r) where
+  module _ (w : Record) (e : IsRecord ws r w) (h : ReadyBody O m ws ss os F d r) where
     -- a rigid head
     pub to-name : w .tag ≡ 8 → Renaming m d (w .a)
-    to-name t =
-        let p = full-place (h .on .full) d (fieldA ws r) (walk-variable (h .on .known) (sym (e .tag-is) ∙ t) .0) in
-        record { looks = looks-on (h .on .on); to = p .0; has = rw (e .a-is) (p .1) }
+    to-name t = let p = full-place (h .on .full) d (w .a) (at-variable (h .on .at) w e t) in record { looks = looks-on (h .on .on); to = p .0; has = p .1 }
 
     module _ (b : w .tag ≡ 9 → ⊥) where
       a : w .tag ≡ 6 → ⊥
       a q = h .plain (sym (e .tag-is) ∙ q)
 
       pub head-kept : (x : ℕ) → (w .tag ≡ 8 → ⊥) → x ≡ w .a → Headed (mapOf false m) d w x
-      head-kept x c q = let p = h .plain in let lo = h .on .is .term .low in let hi = h .on .is .term .high in let z = e .tag-is in of-constant (omega arith) (sym q)
-
-      small : size (w .b) ≤ r
-      small = let t = h .on .table in size-args (t .R) (t .n) (t .home) ws ss (t .used) F r (t .fine) (h .on .is) w e a
+      head-kept x c q = let p = h .plain in let lo = h .on .at .is .term .low in let hi = h .on .at .is .term .high in let z = e .tag-is in of-constant (omega arith) (sym q)
 
       -- the cycle's measure is twice the reach, and one more at a term whose lambdas are not yet taken off
       pub fall-args : (t : ℕ) → 2 * reach 4096 F (suc r) ≡ t → 2 * reach 4096 F (size (w .b)) < t
-      fall-args t z = let s = small in omega arith
+      fall-args t z = let s = at-size (h .on .at) w e a b in omega arith
 
-      knows : WalkAllKnown (h .on .table .R) (store ws ss (h .on .table .used)) (h .on .scope) d (w .b)
-      knows = rw (e .b-is) (go (ℕ-discrete (tag ws r) 7))
-        where
-          go : Dec (tag ws r ≡ 7) → WalkAllKnown (h .on .table .R) (store ws ss (h .on .table .used)) (h .on .scope) d (fieldB ws r)
-          go (yes t) = walk-constant (h .on .known) t
-          go (no t) =
-              let lo = h .on .is .term .low in
-              let hi = h .on .is .term .high in
-              let z = e .tag-is in
-              let p = h .plain in
-              walk-variable (h .on .known) (omega arith) .1
-
-      pub to-args : ReadyL O m ws ss os F d (w .b)
+      pub to-args : ReadyList O m ws ss os F d (w .b)
       to-args =
-          let s = small in
-          let i = h .on .is .below in
-          let t = h .on .table in
-          record {
-            table = t;
-            is = args-less ws (t .home) F F r (t .used) (w .b) (args-at (t .R) (t .n) (t .home) ws ss (t .used) F r (t .fine) (h .on .is) w e a) (omega arith) (omega arith);
-            few = few-at (t .R) (t .n) (t .home) ws ss (t .used) F r (t .fine) (h .on .is) w e a;
-            on = on-part d (size (w .b)) os (h .on .on) refl (omega arith);
-            scope = h .on .scope;
-            full = h .on .full;
-            known = knows;
-          }
+          let s = at-size (h .on .at) w e a b in
+          record { table = h .on .table; scope = h .on .scope; at = at-args (h .on .at) w e a b; on = on-part d (size (w .b)) os (h .on .on) refl (omega arith); full = h .on .full }
 
       pub shows-rigid : (v : ℕ) (os₁ : List ℕ) (used : ℕ) (x : Walked) (os₂ : List ℕ) (y : Walked) → Headed (mapOf false m) d w v
-          → ShowsL O m ws ss os used F d (w .b) os₁ x → Then 0 (over O (w .tag) v) os₁ x os₂ y → ShowsT O m ws ss os used F d r os₂ y
-      shows-rigid v os₁ used x os₂ y t p q = writes-rigid (unrolls O ws) 4096 0 F (mapOf false m) d r os ss used w e v os₁ ss x os₂ y t small p q
+          → ShowsList O m ws ss os used F d (w .b) os₁ x → Then 0 (over O (w .tag) v) os₁ x os₂ y → ShowsTerm O m ws ss os used F d r os₂ y
+      shows-rigid v os₁ used x os₂ y t p q = writes-rigid (unrolls O ws) 4096 0 F (mapOf false m) d r os ss used w e v os₁ ss x os₂ y t (at-size (h .on .at) w e a b) p q
 
     -- an occurrence
     module _ (k : w .tag ≡ 9) where
@@ -198,16 +145,16 @@ module _ {O : ℕ} {m : Map} {ws ss os : List ℕ} {F d r : ℕ} where
       to-names =
           let t = h .on .table in
           record {
-            counts = counts-at (t .R) (t .n) (t .home) ws ss (t .used) F r (t .fine) (h .on .is) w e nine;
+            counts = counts-at (t .R) (t .n) (t .home) ws ss (t .used) F r (t .fine) (h .on .at .is) w e nine;
             looks = looks-on (h .on .on);
-            have = rw (e .b-is) (full-arguments (h .on .full) (h .on .known) nine);
+            have = rw (e .b-is) (full-arguments (h .on .full) (h .on .at .known) nine);
           }
 
       own : F ≤ r
-      own = let u = h .on .is .up in let o = h .on .table .fine .good r (h .on .is .below) .own in omega arith
+      own = let u = h .on .at .is .up in let o = h .on .table .fine .good r (h .on .at .is .below) .own in omega arith
 
       pub fall-hole : (t : ℕ) → 2 * reach 4096 F (suc r) ≡ t → 2 * reach 4096 (r + 1) 4097 < t
-      fall-hole t z = let l = low-at (h .on) in let o = own in omega arith
+      fall-hole t z = let l = at-low (h .on .at) in let o = own in omega arith
 
       -- below a solved hole of a solution the floor is past the occurrence
       risen : (getD ss (w .a) NONE ≡ NONE → ⊥) → Sub ws (h .on .table .home) (r + 1) (h .on .table .used) (getD ss (w .a) NONE)
@@ -216,20 +163,20 @@ module _ {O : ℕ} {m : Map} {ws ss os : List ℕ} {F d r : ℕ} where
           let fl = h .on .on .floor in
           let z : F ≡ 0 → ⊥ = omega arith in
           let ne₁ : getD ss (fieldA ws r) NONE ≡ NONE → ⊥ = rw (← e .a-is) ne in
-          let ri : Rises (t .R) (t .home) (store ws ss (t .used)) F r (r + 1) (getD ss (fieldA ws r) NONE) = rw (← raised-on (t .n) F r z) (rises (t .R) (t .n) (t .home) (store ws ss (t .used)) F r (t .fine) (h .on .is .below) nine (h .on .is .up) ne₁) in
+          let ri : Rises (t .R) (t .home) (store ws ss (t .used)) F r (r + 1) (getD ss (fieldA ws r) NONE) = rw (← raised-on (t .n) F r z) (rises (t .R) (t .n) (t .home) (store ws ss (t .used)) F r (t .fine) (h .on .at .is .below) nine (h .on .at .is .up) ne₁) in
           rw (e .a-is) (ri .sub)
 
-      pub to-hole : (next : Map) → Followed ws false m d (w .b) next → ReadyH O next ws ss os (r + 1) (w .a)
+      pub to-hole : (next : Map) → Followed ws false m d (w .b) next → ReadyHole O next ws ss os (r + 1) (w .a)
       unfolding variables arguments
       to-hole next f =
           let t = h .on .table in
-          let o = t .fine .good r (h .on .is .below) .occ nine .below in
+          let o = t .fine .good r (h .on .at .is .below) .occ nine .below in
           let q = e .a-is in
-          let b₀ = h .on .is .below in
+          let b₀ = h .on .at .is .below in
           let wi = t .fine .within in
           let he = t .fine .held in
           let fi = h .on .on .fits in
-          let l = low-at (h .on) in
+          let l = at-low (h .on .at) in
           let ow = own in
           record {
             table = t;
@@ -243,14 +190,14 @@ module _ {O : ℕ} {m : Map} {ws ss os : List ℕ} {F d r : ℕ} where
               fits = omega arith;
               floor = omega arith;
             };
-            known = rw (f .run, e .a-is, e .b-is) (full-hole (h .on .full) (h .on .known) nine);
+            known = rw (f .run, e .a-is, e .b-is) (full-hole (h .on .full) (h .on .at .known) nine);
           }
 
-      pub shows-occurrence : (next : Map) (used : ℕ) (os₁ : List ℕ) (x : Walked) → Followed ws false m d (w .b) next → ShowsH O next ws ss os used (r + 1) (w .a) os₁ x → ShowsT O m ws ss os used F d r os₁ x
-      shows-occurrence next used os₁ x f p = show-occurrence O m ws ss os used F d r w e next (r + 1) os₁ x nine f (let l = low-at (h .on) in let o = own in omega arith) p
+      pub shows-occurrence : (next : Map) (used : ℕ) (os₁ : List ℕ) (x : Walked) → Followed ws false m d (w .b) next → ShowsHole O next ws ss os used (r + 1) (w .a) os₁ x → ShowsTerm O m ws ss os used F d r os₁ x
+      shows-occurrence next used os₁ x f p = show-occurrence O m ws ss os used F d r w e next (r + 1) os₁ x nine f (let l = at-low (h .on .at) in let o = own in omega arith) p
 
 -- holes
-module _ {O : ℕ} {m : Map} {ws ss os : List ℕ} {F h : ℕ} (g : ReadyH O m ws ss os F h) where
+module _ {O : ℕ} {m : Map} {ws ss os : List ℕ} {F h : ℕ} (g : ReadyHole O m ws ss os F h) where
   pub to-solution : h < length ss
   to-solution = g .held
 
@@ -267,8 +214,8 @@ module _ {O : ℕ} {m : Map} {ws ss os : List ℕ} {F h : ℕ} (g : ReadyH O m w
     pub fall-solution : (k : ℕ) → 2 * reach 4096 F 4097 ≡ k → 2 * reach 4096 F (suc t) + 1 < k
     fall-solution k z = let l = low in omega arith
 
-    pub to-term : ReadyT O m ws ss os F 0 t
-    to-term = let l = low in record { table = g .table; is = at; on = on-part 0 (suc t) os (g .on) refl (omega arith); scope = g .known .scope; full = g .known .full; known = g .known .solution t st ne }
+    pub to-term : ReadyTerm O m ws ss os F 0 t
+    to-term = let l = low in record { table = g .table; scope = g .known .scope; at = record { fine = g .table .fine; is = at; known = g .known .solution t st ne }; on = on-part 0 (suc t) os (g .on) refl (omega arith); full = g .known .full }
 
-    pub shows-solution : (used : ℕ) (os₁ : List ℕ) (x : Walked) → ShowsT O m ws ss os used F 0 t os₁ x → ShowsH O m ws ss os used F h os₁ x
+    pub shows-solution : (used : ℕ) (os₁ : List ℕ) (x : Walked) → ShowsTerm O m ws ss os used F 0 t os₁ x → ShowsHole O m ws ss os used F h os₁ x
     shows-solution used os₁ x p = hole-expanded O m ws ss os used F h t st os₁ x ne low p

@@ -20,8 +20,8 @@ use table::read;
 ghost use mathlib.Core.Path.{_≡_};
 ghost use Rattle.rules.specs.Show.{answer as answerOf};
 ghost use Rattle.store.specs.Said.{store, shown};
-ghost use Rattle.show.specs.Shows.{ShowsT, ShowsL, ShowsH};
-ghost use Rattle.show.specs.Ready.{ReadyT, ReadyB, ReadyL, ReadyH};
+ghost use Rattle.show.specs.Shows.{ShowsTerm, ShowsList, ShowsHole};
+ghost use Rattle.show.specs.Ready.{ReadyTerm, ReadyBody, ReadyList, ReadyHole};
 ghost use Rattle.show.specs.Answer.{Answering};
 
 // What the parts of a showing share: an output of `room` records, and the floor. The floor is there for the proof that showing ends:
@@ -42,8 +42,8 @@ fn show_term(
     depth: u32,
     at: u32,
 ) -> Walked
-    requires { ⌜ ReadyT (task .room) map (now table) (now solutions) (now output) (task .floor) depth at ⌝ }
-    ensures { λ r. ⌜ ShowsT (task .room) map (now (table .entry)) (now (solutions .entry)) (now (output .entry)) used (task .floor) depth at (now (output .exit)) r ⌝ }
+    requires { ⌜ ReadyTerm (task .room) map (now table) (now solutions) (now output) (task .floor) depth at ⌝ }
+    ensures { λ r. ⌜ ShowsTerm (task .room) map (now (table .entry)) (now (solutions .entry)) (now (output .entry)) used (task .floor) depth at (now (output .exit)) r ⌝ }
 {
     let mut inner = depth;
     let mut term = at;
@@ -68,8 +68,8 @@ fn show_body(
     depth: u32,
     at: u32,
 ) -> Walked
-    requires { ⌜ ReadyB (task .room) map (now table) (now solutions) (now output) (task .floor) depth at ⌝ }
-    ensures { λ r. ⌜ ShowsT (task .room) map (now (table .entry)) (now (solutions .entry)) (now (output .entry)) used (task .floor) depth at (now (output .exit)) r ⌝ }
+    requires { ⌜ ReadyBody (task .room) map (now table) (now solutions) (now output) (task .floor) depth at ⌝ }
+    ensures { λ r. ⌜ ShowsTerm (task .room) map (now (table .entry)) (now (solutions .entry)) (now (output .entry)) used (task .floor) depth at (now (output .exit)) r ⌝ }
 {
     let rec = read(table, at);
     if rec.tag == HA {
@@ -101,8 +101,8 @@ fn show_args(
     depth: u32,
     list: u32,
 ) -> Walked
-    requires { ⌜ ReadyL (task .room) map (now table) (now solutions) (now output) (task .floor) depth list ⌝ }
-    ensures { λ r. ⌜ ShowsL (task .room) map (now (table .entry)) (now (solutions .entry)) (now (output .entry)) used (task .floor) depth list (now (output .exit)) r ⌝ }
+    requires { ⌜ ReadyList (task .room) map (now table) (now solutions) (now output) (task .floor) depth list ⌝ }
+    ensures { λ r. ⌜ ShowsList (task .room) map (now (table .entry)) (now (solutions .entry)) (now (output .entry)) used (task .floor) depth list (now (output .exit)) r ⌝ }
 {
     let mut noted = [0u32; 16];
     let mut k = 0;
@@ -133,8 +133,8 @@ fn show_hole(
     hole: Hole,
     map: Map,
 ) -> Walked
-    requires { ⌜ ReadyH (task .room) map (now table) (now solutions) (now output) (task .floor) (hole .0) ⌝ }
-    ensures { λ r. ⌜ ShowsH (task .room) map (now (table .entry)) (now (solutions .entry)) (now (output .entry)) used (task .floor) (hole .0) (now (output .exit)) r ⌝ }
+    requires { ⌜ ReadyHole (task .room) map (now table) (now solutions) (now output) (task .floor) (hole .0) ⌝ }
+    ensures { λ r. ⌜ ShowsHole (task .room) map (now (table .entry)) (now (solutions .entry)) (now (output .entry)) used (task .floor) (hole .0) (now (output .exit)) r ⌝ }
 {
     let t = solution_of(solutions, hole);
     if t == NONE {

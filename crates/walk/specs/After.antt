@@ -1,10 +1,9 @@
 -- After an argument was walked: the rest of the list is as ready as it was.
-use Prim.Native.Nat.{ℕ, suc, _+_, _≤_}
+use Prim.Native.Nat.{ℕ, suc, _+_}
 use mathlib.Core.Path.{_≡_}
 use mathlib.Core.List.{List}
 use native.Mathlib.Omega.{arith}
 use native.Mathlib.Nat.{le-refl}
-use lib.ListN.{length}
 use borrow.Author.Tests.{ne-eqb}
 use Rattle.table.specs.declared.Record.{Record}
 use Rattle.table.specs.Reading.{IsRecord}
@@ -20,9 +19,9 @@ use Rattle.invariants.specs.Copy.{Nobody, copy-grows}
 use Rattle.promise.specs.WalkKnown.{WalkAllKnown, walk-rest}
 use Rattle.promise.specs.CopyKnown.{full-less, copied-rest}
 use Rattle.store.specs.Said.{store}
+use Rattle.rewrite.specs.Terms.{list-cell, list-rest, list-first, list-second}
 use Rattle.walk.specs.Walks.{mapAt, writer, copies, walks}
-use Rattle.walk.specs.Ready.{Led, copying, solving, led-part, ReadyList}
-use Rattle.walk.specs.First.{first-parts, first-lower}
+use Rattle.walk.specs.Ready.{Led, copying, solving, on-part, ReadyList}
 
 -- the store is fine again, and what was written stays
 record Later (R n : ℕ) (home : ℕ → ℕ) (s s₁ : Store) : Type 0 where
@@ -44,34 +43,31 @@ module _ {R n u : ℕ} {m : Map} {ws ss : List ℕ} {used F d l : ℕ} (h : Read
     where
       go : Led R u m used F (h .on .top + d) (size l) → Later R n (h .home) (store ws ss used) (store ws₁ ss₁ u₁) × WalkAllKnown R (store ws₁ ss₁ u₁) (h .scope) d (w .b)
       go (copying z a full fi) =
-          let lo = first-lower h ne w e .0 in
-          let p = first-parts h ne w e .0 in
+          let lo = list-cell (h .at) ne w e .lower .0 in
+          let p = list-first (h .at) ne w e .is in
           let i = h .within a in
           let c = rw (copies R u fuel z) at g in (
-            later (rw c at (copy-grows R n (h .on .top) fuel (mapAt F m) d (w .a) (store ws ss used) (h .home) (h .on .fine) (record { below = p .below; term = p .term; up = omega arith }) (h .on .low) (omega arith) (omega arith))),
-            rw (e .b-is) (copied-rest ne (h .known) (mapAt F m) (rw (ne-eqb F 0 a) (full-less full i)) _ (rw (e .a-is) at c)),
+            later (rw c at (copy-grows R n (h .on .top) fuel (mapAt F m) d (w .a) (store ws ss used) (h .home) (h .at .fine) (record { below = p .below; term = p .term; up = omega arith }) (h .on .low) (omega arith) (omega arith))),
+            rw (e .b-is) (copied-rest ne (h .at .known) (mapAt F m) (rw (ne-eqb F 0 a) (full-less full i)) _ (rw (e .a-is) at c)),
           )
       go (solving z lt fi) =
-          let lo = first-lower h ne w e .0 in
+          let lo = list-cell (h .at) ne w e .lower .0 in
           let c = rw (walks R u fuel z) at g in (
-            later (rw c at (kept R n u used F (h .on .top) fuel (mapAt F m) d (w .a) (store ws ss used) (h .home) (h .on .fine) (le-refl _) lt (first-parts h ne w e .0) (h .on .low) (omega arith) (omega arith))),
-            rw (e .b-is) (walk-rest ne (h .known) _ u (mapAt F m) (rw (e .a-is) at c)),
+            later (rw c at (kept R n u used F (h .on .top) fuel (mapAt F m) d (w .a) (store ws ss used) (h .home) (h .at .fine) (le-refl _) lt (list-first (h .at) ne w e .is) (h .on .low) (omega arith) (omega arith))),
+            rw (e .b-is) (walk-rest ne (h .at .known) _ u (mapAt F m) (rw (e .a-is) at c)),
           )
 
   pub after-same : elements ws₁ (w .b) ≡ elements ws (w .b)
-  after-same = elements-kept ws ws₁ used (w .b) (went .0 .ext .kept) (λ c lt five. h .on .fine .good c lt .cell five) (first-parts h ne w e .1 .here)
+  after-same = elements-kept ws ws₁ used (w .b) (went .0 .ext .kept) (λ c lt five. h .at .fine .good c lt .cell five) (list-rest (h .at) ne w e .here)
 
-  pub after-ready : length (elements ws (w .b)) ≤ 16 → ReadyList R n u m ws₁ ss₁ u₁ F d (w .b)
-  after-ready few =
+  pub after-ready : ReadyList R n u m ws₁ ss₁ u₁ F d (w .b)
+  after-ready =
       let t = went in
-      let gr = t .0 .ext .grown in
-      let a = first-lower h ne w e .1 in
+      let a = list-cell (h .at) ne w e .lower .1 in
       record {
         home = t .0 .home₁;
-        is = args-kept _ _ _ _ _ _ _ _ _ (h .on .fine) (t .0 .ext) (first-parts h ne w e .1);
-        few = rw after-same few;
-        on = record { fine = t .0 .fine; whole = h .on .whole; top = h .on .top; low = h .on .low; led = led-part u₁ _ _ (h .on .led) gr (omega arith) };
         scope = h .scope;
+        at = record { fine = t .0 .fine; is = args-kept _ _ _ _ _ _ _ _ _ (h .at .fine) (t .0 .ext) (list-rest (h .at) ne w e); few = rw after-same (list-second (h .at) ne w e .few); known = t .1 };
+        on = on-part u₁ d (size (w .b)) (h .on) (t .0 .ext .grown) (omega arith);
         within = h .within;
-        known = t .1;
       }

@@ -91,11 +91,10 @@ module _ {R n : ℕ} {ws ss : List ℕ} {used l r : ℕ} where
           let a = e .a-is in
           record {
             home = h .home;
-            is = h .right;
-            on = record { fine = h .fine; whole = p .whole; top = 16; low = rw placed (start-low ws l (rule .few (omega arith) (omega arith))); led = solving some (omega arith) (omega arith) };
             scope = h .scope;
+            at = record { fine = h .fine; is = h .right; known = h .known };
+            on = record { whole = p .whole; top = 16; low = rw placed (start-low ws l (rule .few (omega arith) (omega arith))); led = solving some (omega arith) (omega arith) };
             within = λ z. absurd (z refl);
-            known = h .known;
           }
 
       pub assigned : (ws₁ ss₁ : List ℕ) (x : Walked) (ss₂ : List ℕ) (y : Walked) → WalksTerm R n (w .a) m ws ss used 0 0 r ws₁ ss₁ x → Records (w .a) ss₁ x ss₂ y

@@ -7,11 +7,12 @@ use Rattle.store.specs.declared.Walked.{Walked}
 use Rattle.table.specs.declared.Record.{Record}
 use Rattle.places.specs.declared.Map.{Map}
 use Rattle.invariants.specs.Rise.{reach}
+use Rattle.rewrite.specs.Terms.{at-less}
 use Rattle.rewrite.specs.Lambdas.{Under}
 use Rattle.rewrite.specs.Below.{Opens, Below, below-gives}
 use Rattle.rewrite.specs.Writes.{gives-lambda}
 use Rattle.walk.specs.Walks.{unrolls, mapAt, Gives, WalksTerm}
-use Rattle.walk.specs.Ready.{ReadyTerm, to-read, to-depth, body-less, to-body}
+use Rattle.walk.specs.Ready.{ReadyTerm, to-read, to-depth, to-body}
 
 module _ {R n u : ℕ} {m : Map} {ws ss : List ℕ} {used F : ℕ} where
   pub opens : Opens (ReadyTerm R n u m ws ss used F) (λ s. Gives R u m ws s used F) R ws ws
@@ -19,8 +20,8 @@ module _ {R n u : ℕ} {m : Map} {ws ss : List ℕ} {used F : ℕ} where
       record {
         depth = λ d r h. to-depth h;
         read = λ d r h. to-read h;
-        room = λ d r h. h .on .fine .room;
-        less = λ d r w e t h. body-less w e t h;
+        room = λ d r h. h .at .fine .room;
+        less = λ d r w e t h. at-less (h .at) w e t;
         body = λ d r w e t h. to-body w e t h;
         over = λ d r w e t k s o g. gives-lambda (unrolls R u) R n F (mapAt F m) d r ws s used w e o t k g;
       }

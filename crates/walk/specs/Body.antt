@@ -34,10 +34,10 @@ pub record Rigid (R n u : ℕ) (m : Map) (ws ss : List ℕ) (used F d r : ℕ) (
 
 module _ {R n u : ℕ} {m : Map} {ws ss : List ℕ} {used F d r : ℕ} where
   pub term-room : (ws₁ : List ℕ) → length ws₁ ≡ length ws → ReadyTerm R n u m ws ss used F d r → 4 * R ≤ length ws₁
-  term-room ws₁ e h = let o = h .on .fine .room in omega arith
+  term-room ws₁ e h = let o = h .at .fine .room in omega arith
 
   pub term-since : ReadyTerm R n u m ws ss used F d r → n ≤ used
-  term-since h = h .on .fine .since
+  term-since h = h .at .fine .since
 
   module _ (w : Record) (e : IsRecord ws r w) where
     pub body-rigid : ReadyBody R n u m ws ss used F d r → (s : Found) (v : ℕ) → (w .tag ≡ 9 → ⊥) → headOf (mapAt F m) d w ≡ s → s ≡ At v → Rigid R n u m ws ss used F d r w v

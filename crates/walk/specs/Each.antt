@@ -1,20 +1,21 @@
 -- What the walk of an argument list asks, argument by argument.
-use Prim.Native.Nat.{ℕ, suc, _+_, _*_, _<_, _≤_}
+use Prim.Native.Nat.{ℕ, suc, _+_, _*_, _<_}
 use mathlib.Core.Path.{_≡_}
-use mathlib.Core.List.{List, _∷_}
+use mathlib.Core.List.{List}
 use native.Mathlib.Omega.{arith}
 use lib.ListN.{length}
 use Rattle.table.specs.declared.Record.{Record}
 use Rattle.table.specs.Reading.{IsRecord}
 use Rattle.places.specs.declared.Map.{Map}
-use Rattle.rules.specs.Words.{NONE, elements}
+use Rattle.rules.specs.Words.{NONE}
 use Rattle.rules.specs.Store.{Store}
 use Rattle.laws.specs.Lists.{size}
 use Rattle.invariants.specs.Rise.{reach}
+use Rattle.rewrite.specs.Terms.{list-read, list-cell}
 use Rattle.rewrite.specs.Each.{Splits, Turn as Loop, turn-read as read, turn-head as head, turn-lower as lower}
 use Rattle.walk.specs.Walks.{mapAt, writer}
 use Rattle.walk.specs.Ready.{ReadyTerm, ReadyList}
-use Rattle.walk.specs.First.{first-read, first-lower, first-is, first-ready}
+use Rattle.walk.specs.First.{first-ready}
 use Rattle.walk.specs.After.{after-same, after-ready}
 
 module _ (R n u : ℕ) (m : Map) (F d : ℕ) where
@@ -27,15 +28,13 @@ module _ (R n u : ℕ) (m : Map) (F d : ℕ) where
   pub splits : Splits (writer R u) (λ s. s .words) Term All R R n F (mapAt F m) d
   splits =
       record {
-        room = λ s l h. h .on .fine .room;
-        since = λ s l h. h .on .fine .since;
-        few = λ s l h. h .few;
-        read = λ s l h. first-read h;
-        cell = λ s l h ne w e. record { list = first-is h ne w e; lower = first-lower h ne w e };
+        room = λ s l h. h .at .fine .room;
+        since = λ s l h. h .at .fine .since;
+        few = λ s l h. h .at .few;
+        read = λ s l h. list-read (h .at);
+        cell = λ s l h. list-cell (h .at);
         first = λ s l h ne w e c. first-ready h ne w e;
-        rest = λ s l h ne w e c s₁ y g lw.
-            let k : length (w .a ∷ elements (s .words) (w .b)) ≤ 16 = rw (c .list) at (h .few) in
-            (after-ready h ne w e (s₁ .words) (s₁ .solutions) (s₁ .used) y g (omega arith), after-same h ne w e (s₁ .words) (s₁ .solutions) (s₁ .used) y g);
+        rest = λ s l h ne w e c s₁ y g lw. (after-ready h ne w e (s₁ .words) (s₁ .solutions) (s₁ .used) y g, after-same h ne w e (s₁ .words) (s₁ .solutions) (s₁ .used) y g);
       }
 
 -- after k arguments: what they were written as, and what is left

@@ -10,32 +10,16 @@ use Rattle.table.specs.Reading.{IsRecord}
 use Rattle.places.specs.declared.Map.{Map}
 use Rattle.rules.specs.Words.{NONE, elements}
 use Rattle.laws.specs.Lists.{size, elements-none}
-use Rattle.invariants.specs.Floor.{Sub, Args}
 use Rattle.invariants.specs.Rise.{reach}
-use Rattle.promise.specs.WalkKnown.{walk-first}
 use Rattle.store.specs.Said.{Then, under}
-use Rattle.rewrite.specs.Parts.{cell-read, lower-at, list-is, both-at}
+use Rattle.rewrite.specs.Terms.{list-read, list-cell, list-first}
 use Rattle.walk.specs.Walks.{WalksTerm, WalksList, walk-only}
 use Rattle.walk.specs.Ready.{ReadyTerm, ReadyList, ReadyArgs, on-part}
 
-module _ {R n u : ℕ} {m : Map} {ws ss : List ℕ} {used F d l : ℕ} (h : ReadyList R n u m ws ss used F d l) (ne : l ≡ NONE → ⊥) where
-  pub first-read : 4 * l + 3 < length ws
-  first-read = cell-read R n (h .home) ws ss used F l (h .on .fine) (h .is) ne
-
-  module _ (w : Record) (e : IsRecord ws l w) where
-    pub first-parts : Sub ws (h .home) F used (w .a) × Args ws (h .home) F used (w .b)
-    first-parts = both-at R n (h .home) ws ss used F l (h .on .fine) (h .is) ne w e
-
-    pub first-lower : (suc (w .a) < size l) × (size (w .b) < size l)
-    first-lower = lower-at R n (h .home) ws ss used F l (h .on .fine) (h .is) ne w e
-
-    pub first-is : elements ws l ≡ w .a ∷ elements ws (w .b)
-    first-is = list-is R n (h .home) ws ss used F l (h .on .fine) (h .is) ne w e
-
-    pub first-ready : ReadyTerm R n u m ws ss used F d (w .a)
-    first-ready =
-        let a = first-lower .0 in
-        record { home = h .home; is = first-parts .0; on = on-part d (suc (w .a)) (h .on) (omega arith); scope = h .scope; within = h .within; known = rw (e .a-is) (walk-first ne (h .known)) }
+pub first-ready : {R n u : ℕ} {m : Map} {ws ss : List ℕ} {used F d l : ℕ} (h : ReadyList R n u m ws ss used F d l) → (l ≡ NONE → ⊥) → (w : Record) → IsRecord ws l w → ReadyTerm R n u m ws ss used F d (w .a)
+first-ready {used = used} {d = d} h ne w e =
+    let a = list-cell (h .at) ne w e .lower .0 in
+    record { home = h .home; scope = h .scope; at = list-first (h .at) ne w e; on = on-part used d (suc (w .a)) (h .on) (omega arith) (omega arith); within = h .within }
 
 -- an only argument
 module _ {R n u : ℕ} {m : Map} {ws ss : List ℕ} {used F d l : ℕ} (h : ReadyArgs R n u m ws ss used F d l) where
@@ -43,20 +27,20 @@ module _ {R n u : ℕ} {m : Map} {ws ss : List ℕ} {used F d l : ℕ} (h : Read
   args-list = h .list
 
   pub args-read : 4 * l + 3 < length ws
-  args-read = first-read (h .list) (h .some)
+  args-read = list-read (h .list .at) (h .some)
 
   pub args-room : (ws₁ : List ℕ) → length ws₁ ≡ length ws → 4 * R ≤ length ws₁
-  args-room ws₁ e = let o = h .list .on .fine .room in omega arith
+  args-room ws₁ e = let o = h .list .at .fine .room in omega arith
 
   module _ (w : Record) (e : IsRecord ws l w) where
     pub only-ready : ReadyTerm R n u m ws ss used F d (w .a)
     only-ready = first-ready (h .list) (h .some) w e
 
     pub fall-only : (t : ℕ) → 3 * reach R F (size l) ≡ t → 3 * reach R F (suc (w .a)) + 1 < t
-    fall-only t z = let a = first-lower (h .list) (h .some) w e .0 in omega arith
+    fall-only t z = let a = list-cell (h .list .at) (h .some) w e .lower .0 in omega arith
 
     pub only-walked : (ws₁ ss₁ : List ℕ) (x : Walked) (ws₂ : List ℕ) (y : Walked) → w .b ≡ NONE → WalksTerm R n u m ws ss used F d (w .a) ws₁ ss₁ x → Then n (under R 5 NONE) ws₁ x ws₂ y
         → WalksList R n u m ws ss used F d l ws₂ ss₁ y
     only-walked ws₁ ss₁ x ws₂ y z p q =
-        let is : elements ws l ≡ w .a ∷ [] = rw (first-is (h .list) (h .some) w e, elements-none ws (w .b) z) in
-        walk-only R n u m ws ss used F d (w .a) l ws₁ ss₁ x ws₂ y is (first-lower (h .list) (h .some) w e .0) p q
+        let is : elements ws l ≡ w .a ∷ [] = rw (list-cell (h .list .at) (h .some) w e .list, elements-none ws (w .b) z) in
+        walk-only R n u m ws ss used F d (w .a) l ws₁ ss₁ x ws₂ y is (list-cell (h .list .at) (h .some) w e .lower .0) p q

@@ -51,9 +51,9 @@ module _ (m : Map) (d : ℕ) (w : Record) where
         go (yes t) = (t, sym (head-variable _ t refl) ∙ p ∙ q)
         go (no c) = let z : At (w .a) ≡ Nowhere = sym (head-constant c) ∙ p ∙ q in let no : _≡_ {A = ℕ} 0 1 = cc in absurd (omega arith)
 
-  pub head-plain : (v : ℕ) → Headed m d w v → w .tag ≡ 6 → ⊥
-  head-plain v (of-constant t _) q = absurd (omega arith)
-  head-plain v (of-variable t _) q = absurd (omega arith)
+  pub head-plain : (v : ℕ) → Headed m d w v → (w .tag ≡ 6 → ⊥) × (w .tag ≡ 9 → ⊥)
+  head-plain v (of-constant t _) = (λ q. omega arith, λ q. omega arith)
+  head-plain v (of-variable t _) = (λ q. omega arith, λ q. omega arith)
 
 -- a rigid head without arguments
 unfoldable pub isLeaf : Record → Bool

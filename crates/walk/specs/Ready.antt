@@ -19,12 +19,12 @@ use Rattle.places.specs.declared.Map.{Map}
 use Rattle.rules.specs.Words.{NONE, tag, fieldA, fieldB, elements, arguments, variables}
 use Rattle.rules.specs.Store.{pushOccurrence}
 use Rattle.laws.specs.Lists.{size}
-use Rattle.invariants.specs.Floor.{Sub, Args, Fine, limit}
-use Rattle.invariants.specs.Grow.{all-map, sub-less, args-less}
+use Rattle.invariants.specs.Floor.{limit}
+use Rattle.invariants.specs.Grow.{all-map}
 use Rattle.invariants.specs.Places.{Low, followed}
 use Rattle.invariants.specs.Rise.{reach, raised, raised-first, raised-on, Rises, rises}
 use Rattle.invariants.specs.Keep.{highest}
-use Rattle.promise.specs.WalkKnown.{WalkKnown, WalkAllKnown, walk-body, walk-constant, walk-variable, walk-arguments, walk-arity, walk-solution}
+use Rattle.promise.specs.WalkKnown.{walk-arguments, walk-arity, walk-solution}
 use Rattle.promise.specs.CopyKnown.{Full, full-less, full-arguments}
 use Rattle.store.specs.Said.{store, Does, Then, over}
 use Rattle.places.specs.Maps.{Whole, mapOf, side}
@@ -34,9 +34,10 @@ use Rattle.places.specs.Follow.{Following, Followed}
 use Rattle.narrow.specs.Writing.{Writing}
 use Rattle.narrow.specs.Narrowing.{Narrowing}
 use Rattle.rewrite.specs.Renamings.{Renamings}
-use Rattle.rewrite.specs.Levels.{Headed, of-constant, of-variable}
+use Rattle.rewrite.specs.Levels.{Headed}
 use Rattle.rewrite.specs.Writes.{writes-rigid}
-use Rattle.rewrite.specs.Parts.{term-read, body-at, args-at, size-args, few-at, counts-at, hole-held, narrows}
+use Rattle.rewrite.specs.Parts.{counts-at, hole-held, narrows}
+use Rattle.rewrite.specs.Terms.{TermAt, ListAt, at-read, at-low, at-less, at-body, at-variable, at-size, at-args}
 use Rattle.walk.specs.Head.{headOf, head-at, head-plain}
 use Rattle.walk.specs.Walks.{unrolls, mapAt, WalksTerm, WalksList, WalksHole, walk-hole, hole-kept, hole-hops}
 
@@ -62,9 +63,8 @@ module _ {R u : ℕ} {m : Map} {used F x k : ℕ} where
   led-copying (copying z a f h) e = (a, f)
   led-copying (solving z a h) e = absurd (z e)
 
--- what every walk asks, at a measure k
-pub record On (R n u : ℕ) (m : Map) (home : ℕ → ℕ) (ws ss : List ℕ) (used F d k : ℕ) : Type 0 where
-  pub fine : Fine R n home (store ws ss used)
+-- the map, at a measure k
+pub record On (R u : ℕ) (m : Map) (used F d k : ℕ) : Type 0 where
   pub whole : Whole m
   pub top : ℕ
   pub low : Low (mapAt F m) top
@@ -73,25 +73,23 @@ pub record On (R n u : ℕ) (m : Map) (home : ℕ → ℕ) (ws ss : List ℕ) (u
 -- a term; its scope is the number of variables outside its lambdas, and below a solved hole the map has a position for each of them
 pub record ReadyTerm (R n u : ℕ) (m : Map) (ws ss : List ℕ) (used F d r : ℕ) : Type 0 where
   pub home : ℕ → ℕ
-  pub is : Sub ws home F used r
-  pub on : On R n u m home ws ss used F d (suc r)
   pub scope : ℕ
+  pub at : TermAt R n home ws ss used F scope d r
+  pub on : On R u m used F d (suc r)
   pub within : (F ≡ 0 → ⊥) → scope ≤ m .len
-  pub known : WalkKnown R (store ws ss used) scope d r
 
 -- a term that is no lambda
 pub record ReadyBody (R n u : ℕ) (m : Map) (ws ss : List ℕ) (used F d r : ℕ) : Type 0 where
   pub on : ReadyTerm R n u m ws ss used F d r
   pub plain : tag ws r ≡ 6 → ⊥
 
+-- a list
 pub record ReadyList (R n u : ℕ) (m : Map) (ws ss : List ℕ) (used F d l : ℕ) : Type 0 where
   pub home : ℕ → ℕ
-  pub is : Args ws home F used l
-  pub few : length (elements ws l) ≤ 16
-  pub on : On R n u m home ws ss used F d (size l)
   pub scope : ℕ
+  pub at : ListAt R n home ws ss used F scope d l
+  pub on : On R u m used F d (size l)
   pub within : (F ≡ 0 → ⊥) → scope ≤ m .len
-  pub known : WalkAllKnown R (store ws ss used) scope d l
 
 -- a list that is not empty
 pub record ReadyArgs (R n u : ℕ) (m : Map) (ws ss : List ℕ) (used F d l : ℕ) : Type 0 where
@@ -114,8 +112,8 @@ pub record Hopping (R n u : ℕ) (m : Map) (ws ss : List ℕ) (used F d r : ℕ)
   pub solved : t ≡ NONE → ⊥
   pub floor : raised n F r ≡ G
 
-pub on-part : {R n u : ℕ} {m : Map} {home : ℕ → ℕ} {ws ss : List ℕ} {used F d k : ℕ} (d₁ k₁ : ℕ) → On R n u m home ws ss used F d k → d₁ + k₁ ≤ d + k → On R n u m home ws ss used F d₁ k₁
-on-part {used = used} d₁ k₁ o h = record { fine = o .fine; whole = o .whole; top = o .top; low = o .low; led = led-part used (o .top + d₁) k₁ (o .led) (omega arith) (omega arith) }
+pub on-part : {R u : ℕ} {m : Map} {used F d k : ℕ} (v d₁ k₁ : ℕ) → On R u m used F d k → used ≤ v → d₁ + k₁ ≤ d + k → On R u m v F d₁ k₁
+on-part v d₁ k₁ o l h = record { whole = o .whole; top = o .top; low = o .low; led = led-part v (o .top + d₁) k₁ (o .led) l (omega arith) }
 
 -- the cycle's measure is three times the reach at a list, at an occurrence and at a body, one more at a term, and two more at an argument
 pub fall-argument : (R F r t : ℕ) → 3 * reach R F (suc r) + 2 ≡ t → 3 * reach R F (suc r) + 1 < t
@@ -131,10 +129,10 @@ as-many {ws} {r = r} {next = next} e g = let k : length (elements ws (fieldB ws 
 
 module _ {R n u : ℕ} {m : Map} {ws ss : List ℕ} {used F d r : ℕ} where
   pub to-read : ReadyTerm R n u m ws ss used F d r → 4 * r + 3 < length ws
-  to-read h = term-read R n (h .home) ws ss used F r (h .on .fine) (h .is)
+  to-read h = at-read (h .at)
 
   pub look : ReadyTerm R n u m ws ss used F d r → Looks (eqb F 0) m d
-  look h = let w = h .on .fine .within in let f = h .on .fine .few in record { top = h .on .top; whole = h .on .whole; low = h .on .low; fits = led-low (h .on .led) (omega arith) }
+  look h = let f = h .at .fine in let w = f .within in let r = f .few in record { top = h .on .top; whole = h .on .whole; low = h .on .low; fits = led-low (h .on .led) (omega arith) }
 
   pub to-depth : ReadyTerm R n u m ws ss used F d r → Fits w32 (d + 1)
   to-depth h = let f = look h .fits in record { fits = omega arith }
@@ -144,59 +142,31 @@ module _ {R n u : ℕ} {m : Map} {ws ss : List ℕ} {used F d r : ℕ} where
   inside h v lt = record { within = λ z. let k = h .within (eqb-false F 0 z) in omega arith }
 
   -- the body of a lambda
-  body : (w : Record) → IsRecord ws r w → w .tag ≡ 6 → (h : ReadyTerm R n u m ws ss used F d r) → Sub ws (h .home) F r (w .a)
-  body w e t h = body-at R n (h .home) ws ss used F r (h .on .fine) (h .is) w e t
-
-  pub body-less : (w : Record) → IsRecord ws r w → w .tag ≡ 6 → ReadyTerm R n u m ws ss used F d r → w .a < r
-  body-less w e k h = body w e k h .below
-
   pub to-body : (w : Record) → IsRecord ws r w → w .tag ≡ 6 → ReadyTerm R n u m ws ss used F d r → ReadyTerm R n u m ws ss used F (d + 1) (w .a)
   to-body w e k h =
-      let b = body w e k h in
-      let b₀ = b .below in
-      let i = h .is .below in
-      record {
-        home = h .home;
-        is = sub-less ws (h .home) F F r used (w .a) b (omega arith) (omega arith);
-        on = on-part (d + 1) (suc (w .a)) (h .on) (omega arith);
-        scope = h .scope;
-        within = h .within;
-        known = rw (e .a-is) (walk-body (h .known) (sym (e .tag-is) ∙ k));
-      }
+      let l = at-less (h .at) w e k in
+      record { home = h .home; scope = h .scope; at = at-body (h .at) w e k; on = on-part used (d + 1) (suc (w .a)) (h .on) (omega arith) (omega arith); within = h .within }
 
   -- a rigid head
   pub in-scope : (w : Record) → IsRecord ws r w → ReadyTerm R n u m ws ss used F d r → w .tag ≡ 8 → Within (eqb F 0) m d (w .a)
-  in-scope w e h t = rw (e .a-is) (inside h (fieldA ws r) (walk-variable (h .known) (sym (e .tag-is) ∙ t) .0))
+  in-scope w e h t = inside h (w .a) (at-variable (h .at) w e t)
 
   pub headed : (w : Record) (s : Found) (v : ℕ) → IsRecord ws r w → (w .tag ≡ 6 → ⊥) → (w .tag ≡ 9 → ⊥) → ReadyTerm R n u m ws ss used F d r → headOf (mapAt F m) d w ≡ s → s ≡ At v → Headed (mapAt F m) d w v
-  headed w s v e a b h p q = let lo = h .is .term .low in let hi = h .is .term .high in let z = e .tag-is in head-at _ _ _ s p v (omega arith) (omega arith) q
+  headed w s v e a b h p q = let lo = h .at .is .term .low in let hi = h .at .is .term .high in let z = e .tag-is in head-at _ _ _ s p v (omega arith) (omega arith) q
 
   module _ (w : Record) (v : ℕ) (e : IsRecord ws r w) (g : Headed (mapAt F m) d w v) (h : ReadyTerm R n u m ws ss used F d r) where
-    plain : w .tag ≡ 6 → ⊥
-    plain = head-plain _ _ _ v g
-
     pub args-size : size (w .b) ≤ r
-    args-size = size-args R n (h .home) ws ss used F r (h .on .fine) (h .is) w e plain
-
-    knows : WalkAllKnown R (store ws ss used) (h .scope) d (w .b)
-    knows = rw (e .b-is) (go g)
-      where
-        go : Headed (mapAt F m) d w v → WalkAllKnown R (store ws ss used) (h .scope) d (fieldB ws r)
-        go (of-constant t _) = walk-constant (h .known) (sym (e .tag-is) ∙ t)
-        go (of-variable t _) = walk-variable (h .known) (sym (e .tag-is) ∙ t) .1
+    args-size = at-size (h .at) w e (head-plain _ _ _ v g .0) (head-plain _ _ _ v g .1)
 
     pub to-args : ReadyList R n u m ws ss used F d (w .b)
     to-args =
         let s = args-size in
-        let i = h .is .below in
         record {
           home = h .home;
-          is = args-less ws (h .home) F F r used (w .b) (args-at R n (h .home) ws ss used F r (h .on .fine) (h .is) w e plain) (omega arith) (omega arith);
-          few = few-at R n (h .home) ws ss used F r (h .on .fine) (h .is) w e plain;
-          on = on-part d (size (w .b)) (h .on) (omega arith);
           scope = h .scope;
+          at = at-args (h .at) w e (head-plain _ _ _ v g .0) (head-plain _ _ _ v g .1);
+          on = on-part used d (size (w .b)) (h .on) (omega arith) (omega arith);
           within = h .within;
-          known = knows;
         }
 
     pub walked-rigid : (ws₁ ss₁ : List ℕ) (x : Walked) (ws₂ : List ℕ) (y : Walked) → WalksList R n u m ws ss used F d (w .b) ws₁ ss₁ x → Then n (over R (w .tag) v) ws₁ x ws₂ y → WalksTerm R n u m ws ss used F d r ws₂ ss₁ y
@@ -216,13 +186,13 @@ module _ {R n u : ℕ} {m : Map} {ws ss : List ℕ} {used F d r : ℕ} where
       let c = led-copying (h .on .on .led) z in
       let i = h .on .within (c .0) in
       record {
-        counts = counts-at R n (h .on .home) ws ss used F r (h .on .on .fine) (h .on .is) w e (h .occ);
+        counts = counts-at R n (h .on .home) ws ss used F r (h .on .at .fine) (h .on .at .is) w e (h .occ);
         looks = rw (ne-eqb F 0 (c .0)) at (look (h .on));
-        have = rw (e .b-is) (full-arguments (full-less (c .1) i) (h .on .known) (h .occ));
+        have = rw (e .b-is) (full-arguments (full-less (c .1) i) (h .on .at .known) (h .occ));
       }
 
   pub to-write : (w : Record) (next : Map) → Followed ws false m d (w .b) next → ReadyHole R n u m ws ss used F d r → Writing ws n used R next
-  to-write w next f h = record { room = h .on .on .fine .room; since = h .on .on .fine .since; whole = f .whole }
+  to-write w next f h = record { room = h .on .at .fine .room; since = h .on .at .fine .since; whole = f .whole }
 
   pub walked-kept : (w : Record) (next : Map) (ws₁ : List ℕ) (x : Walked) → IsRecord ws r w → u ≡ NONE → ReadyHole R n u m ws ss used F d r → Followed ws false m d (w .b) next
       → Does n (pushOccurrence R (w .a) (side false (mapOf false next))) ws used ws₁ x → WalksHole R n u m ws ss used F d r ws₁ ss x
@@ -232,33 +202,33 @@ module _ {R n u : ℕ} {m : Map} {ws ss : List ℕ} {used F d r : ℕ} where
   unfolding variables arguments
   to-follow w e h =
       record {
-        counts = counts-at R n (h .on .home) ws ss used F r (h .on .on .fine) (h .on .is) w e (h .occ);
+        counts = counts-at R n (h .on .home) ws ss used F r (h .on .at .fine) (h .on .at .is) w e (h .occ);
         looks = look (h .on);
-        within = rw (e .b-is) (all-map _ _ (inside (h .on)) (variables ws r) (walk-arguments (h .on .known) (h .occ)));
+        within = rw (e .b-is) (all-map _ _ (inside (h .on)) (variables ws r) (walk-arguments (h .on .at .known) (h .occ)));
       }
 
   pub to-solution : (w : Record) → IsRecord ws r w → ReadyHole R n u m ws ss used F d r → w .a < length ss
-  to-solution w e h = hole-held R n (h .on .home) ws ss used F r (h .on .on .fine) (h .on .is) w e (h .occ)
+  to-solution w e h = hole-held R n (h .on .home) ws ss used F r (h .on .at .fine) (h .on .at .is) w e (h .occ)
 
   pub to-keep : (w : Record) (next : Map) → IsRecord ws r w → ReadyHole R n u m ws ss used F d r → Followed ws (eqb F 0) m d (w .b) next → Narrowing ws ss n used R (w .a) next
   to-keep w next e h g =
-      narrows R n (h .on .home) ws ss used F r (h .on .on .fine) (h .on .is) w e (h .occ) next (g .whole) (sym (walk-arity (h .on .known) (h .occ)) ∙ as-many e g)
+      narrows R n (h .on .home) ws ss used F r (h .on .at .fine) (h .on .at .is) w e (h .occ) next (g .whole) (sym (walk-arity (h .on .at .known) (h .occ)) ∙ as-many e g)
 
   pub to-raise : ReadyHole R n u m ws ss used F d r → r < 4096
-  to-raise h = let lt = h .on .is .below in let wi = h .on .on .fine .within in let f = h .on .on .fine .few in omega arith
+  to-raise h = at-low (h .on .at)
 
   -- below a solved hole the floor has risen, and is no higher than the solution's home
   risen : (w : Record) (t G : ℕ) → IsRecord ws r w → getD ss (w .a) NONE ≡ t → (t ≡ NONE → ⊥) → raised n F r ≡ G → (h : ReadyHole R n u m ws ss used F d r) → Rises R (h .on .home) (store ws ss used) F r G t
   risen w t G e st z g h =
       let st₁ : getD ss (fieldA ws r) NONE ≡ t = rw (← e .a-is) st in
-      rw (g, st₁) at (rises R n (h .on .home) (store ws ss used) F r (h .on .on .fine) (h .on .is .below) (h .occ) (h .on .is .up) (λ q. z (sym st₁ ∙ q)))
+      rw (g, st₁) at (rises R n (h .on .home) (store ws ss used) F r (h .on .at .fine) (h .on .at .is .below) (h .occ) (h .on .at .is .up) (λ q. z (sym st₁ ∙ q)))
 
   -- the floor there is no 0
   above : (G : ℕ) → raised n F r ≡ G → ReadyHole R n u m ws ss used F d r → G ≡ 0 → ⊥
   above G g h q = go (ℕ-discrete F 0)
     where
       go : Dec (F ≡ 0) → ⊥
-      go (yes z) = let one = h .on .on .fine .some in let e = raised-first n F r z in absurd (omega arith)
+      go (yes z) = let one = h .on .at .fine .some in let e = raised-first n F r z in absurd (omega arith)
       go (no z) = let e = raised-on n F r z in absurd (omega arith)
 
   -- what is known where the walk goes on below a solved hole
@@ -278,17 +248,15 @@ module _ {R n u : ℕ} {m : Map} {ws ss : List ℕ} {used F d r : ℕ} where
         let many = as-many (k .is) (k .follows) in
         record {
           home = k .on .on .home;
-          is = goes-up .sub;
+          scope = length (variables ws r);
+          at = record { fine = k .on .on .at .fine; is = goes-up .sub; known = walk-solution (k .on .on .at .known) (k .on .occ) t (rw (← k .is .a-is) (k .solution)) (k .solved) };
           on = record {
-            fine = o .fine;
             whole = k .follows .whole;
             top = o .top + d;
             low = rw (ne-eqb G 0 (above G (k .floor) (k .on)), k .follows .run) (followed (mapAt F m) d (o .top) 0 (varsOf ws (w .b)) (o .low) .low);
             led = solving (k .some) (l .0) (omega arith);
           };
-          scope = length (variables ws r);
           within = λ _. omega arith;
-          known = walk-solution (k .on .on .known) (k .on .occ) t (rw (← k .is .a-is) (k .solution)) (k .solved);
         }
 
     pub hops : (ws₁ ss₁ : List ℕ) (x : Walked) → WalksTerm R n u next ws ss used G 0 t ws₁ ss₁ x → WalksHole R n u m ws ss used F d r ws₁ ss₁ x

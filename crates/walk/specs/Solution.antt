@@ -77,11 +77,10 @@ module _ {R n : ℕ} {ws ss : List ℕ} {used r t : ℕ} (h : Copying R n ws ss 
       copying-ready =
           record {
             home = h .home;
-            is = h .is;
-            on = record { fine = h .fine; whole = p .whole; top = limit r; low = rw named names-low; led = copying refl (λ z. omega arith) full names-fit };
             scope = length (variables ws r);
+            at = record { fine = h .fine; is = h .is; known = h .known };
+            on = record { whole = p .whole; top = limit r; low = rw named names-low; led = copying refl (λ z. omega arith) full names-fit };
             within = λ _. let k = as-many in omega arith;
-            known = h .known;
           }
 
       pub solution-copied : (ws₁ ss₁ : List ℕ) (x : Walked) → WalksTerm R n NONE m ws ss used 1 0 t ws₁ ss₁ x → CopiesSolution R n ws ss used r t ws₁ ss₁ x

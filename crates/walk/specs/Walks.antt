@@ -28,7 +28,7 @@ use Rattle.places.specs.Maps.{mapOf, side}
 use Rattle.places.specs.Lists.{varsOf}
 use Rattle.places.specs.Follow.{Followed}
 use Rattle.rewrite.specs.Levels.{Headed, level-escape}
-use Rattle.rewrite.specs.Writes.{Gives as Written, WritesT, WritesL, Unrolls, gives-level, writes-hole, writes-leaf}
+use Rattle.rewrite.specs.Writes.{Gives as Written, WritesTerm, WritesList, Unrolls, gives-level, writes-hole, writes-leaf}
 use Rattle.walk.specs.Head.{headOf, head-nowhere}
 
 -- the walk for hole u, and for no hole a copy, with so much fuel
@@ -76,10 +76,10 @@ Gives R u m ws ss used F d r o = Written (writer R u) R F (mapAt F m) d r (store
 
 -- with fuel enough, the walk of a term, of a list and of an occurrence answers so
 abbrev pub WalksTerm : ℕ → ℕ → ℕ → Map → List ℕ → List ℕ → ℕ → ℕ → ℕ → ℕ → List ℕ → List ℕ → Walked → Type 0
-WalksTerm R n u m ws ss used F d r ws₁ ss₁ x = WritesT (writer R u) R n F (mapAt F m) d r (store ws ss used) ws₁ ss₁ x
+WalksTerm R n u m ws ss used F d r ws₁ ss₁ x = WritesTerm (writer R u) R n F (mapAt F m) d r (store ws ss used) ws₁ ss₁ x
 
 abbrev pub WalksList : ℕ → ℕ → ℕ → Map → List ℕ → List ℕ → ℕ → ℕ → ℕ → ℕ → List ℕ → List ℕ → Walked → Type 0
-WalksList R n u m ws ss used F d l ws₁ ss₁ x = WritesL (writer R u) (λ s. s .words) R R n F (mapAt F m) d l (store ws ss used) ws₁ ss₁ x
+WalksList R n u m ws ss used F d l ws₁ ss₁ x = WritesList (writer R u) (λ s. s .words) R R n F (mapAt F m) d l (store ws ss used) ws₁ ss₁ x
 
 pub record WalksHole (R n u : ℕ) (m : Map) (ws ss : List ℕ) (used F d r : ℕ) (ws₁ ss₁ : List ℕ) (x : Walked) : Type 0 where
   pub run : (f : ℕ) → reach R F r ≤ f → onHole R u f (mapAt F m) d r (store ws ss used) ≡ shown ws₁ ss₁ x

@@ -9,7 +9,7 @@ use Rattle.invariants.specs.Rise.{reach}
 use Rattle.places.specs.Maps.{mapOf}
 use Rattle.rewrite.specs.Levels.{Headed, head-named}
 use Rattle.show.specs.Shows.{Gives, show-leaf, hole-written}
-use Rattle.show.specs.Ready.{ReadyT, to-read, to-read-b, to-above, to-push, to-then, to-names, fall-hole, to-hole, shows-occurrence, to-name, head-kept, fall-args, to-args, shows-rigid, to-solution, to-write, fall-solution, to-term, shows-solution}
+use Rattle.show.specs.Ready.{ReadyTerm, to-read, to-above, to-push, to-then, to-names, fall-hole, to-hole, shows-occurrence, to-name, head-kept, fall-args, to-args, shows-rigid, to-solution, to-write, fall-solution, to-term, shows-solution}
 use Rattle.rewrite.specs.Below.{Below, below-first, below-depth, below-less, below-read, below-next, below-plain, below-then}
 use Rattle.show.specs.Below.{opens, below-ends}
 use Rattle.rewrite.specs.Each.{turn-first, turn-kept, turn-array, turn-cells, turn-ends, turn-less, room-left, turn-stops, turn-next}
@@ -88,7 +88,7 @@ abbrev show-args-μ-loop : show-args-lts.MeasureT-loop
 show-args-μ-loop table solutions output₀ task used map depth list noted₀ k₀ taken₀ left₀ output noted k taken left = size left
 
 abbrev show-term-Inv-loop : show-term-lts.InvT-loop
-show-term-Inv-loop table solutions output task used map depth at inner₀ term₀ rec₀ inner term rec = Below (ReadyT (task .room) map table solutions output (task .floor)) (λ s. Gives (task .room) map table s output used (task .floor)) (task .room) table output depth at inner term rec
+show-term-Inv-loop table solutions output task used map depth at inner₀ term₀ rec₀ inner term rec = Below (ReadyTerm (task .room) map table solutions output (task .floor)) (λ s. Gives (task .room) map table s output used (task .floor)) (task .room) table output depth at inner term rec
 
 abbrev show-term-μ-loop : show-term-lts.MeasureT-loop
 show-term-μ-loop table solutions output task used map depth at inner₀ term₀ rec₀ inner term rec = term
@@ -146,7 +146,7 @@ pub +show-args+show-body+show-hole+show-term-spec : {M : Type 1} → statement M
     )
     (show-body-at t)
     show-body.Post
-    (λ c κs. search to-read-b)
+    (λ c κs. search to-read)
     (λ c κs. search to-names)
     (λ c. search to-above)
     (λ c κs. (search fall-hole, search to-hole))
