@@ -1,28 +1,15 @@
--- One more record is noted if it is a hole.
+-- The holes are noted record after record.
 use Prim.Native.Nat.{ℕ, _+_, _*_, _<_, _≤_}
 use mathlib.Core.Path.{_≡_, sym, _∙_}
 use mathlib.Core.List.{List}
 use native.Mathlib.Omega.{arith}
-use borrow.Author.Tests.{ne-eqb}
-use lib.ListN.{length, set}
+use lib.ListN.{length}
+use mir.Syntax.{w32}
+use mir.Val.{Fits}
 use Rattle.rules.specs.Words.{HO, has}
-use Rattle.laws.specs.Noted.{noted-start, noted-other, noted-one}
-use Rattle.table.specs.declared.Record.{Record}
-use Rattle.table.specs.Reading.{IsRecord}
-use Rattle.lines.specs.Holes.{Holes, Noting, Notable}
-
-module _ (ws hs : List ℕ) (k r : ℕ) (p : Noting ws hs k r) where
-  pub note-fits : k < length hs
-  note-fits = let f = p .lower .few in let h = p .room in omega arith
-
-  module _ (x : Record) (i : IsRecord ws r x) where
-    pub note-other : (x .tag ≡ HO → ⊥) → Holes ws hs k (r + 1)
-    unfolding has
-    note-other z = noted-other (λ h. has ws h HO) hs k r (p .lower) (rw (← i .tag-is, ne-eqb _ _ z))
-
-    pub note-hole : x .tag ≡ HO → Holes ws (set hs k r) (k + 1) (r + 1)
-    unfolding has
-    note-hole z = noted-one (λ h. has ws h HO) hs k r (p .lower) (rw (← i .tag-is, z)) note-fits
+use Rattle.laws.specs.Noted.{noted-start}
+use Rattle.records.specs.Noting.{NoteAsks}
+use Rattle.lines.specs.Holes.{Holes, Notable}
 
 -- the loop: r records are passed
 pub record Passed (ws hs₀ hs : List ℕ) (n k r : ℕ) : Type 0 where
@@ -39,7 +26,7 @@ module _ (ws hs₀ : List ℕ) (n : ℕ) where
       refl-length = omega arith
 
   module _ (hs : List ℕ) (k r : ℕ) (p : Passed ws hs₀ hs n k r) where
-    pub passed-asks : r < n → Noting ws hs k r
+    pub passed-asks : r < n → NoteAsks HO ws hs k r
     passed-asks lt =
         let i = p .all .inside in
         let f = p .all .few in
@@ -49,6 +36,9 @@ module _ (ws hs₀ : List ℕ) (n : ℕ) where
 
     pub passed-more : (hs₁ : List ℕ) (j : ℕ) → r < n → length hs₁ ≡ length hs → Holes ws hs₁ j (r + 1) → Passed ws hs₀ hs₁ n j (r + 1)
     passed-more hs₁ j lt l h = record { all = p .all; same = l ∙ p .same; low = omega arith; holes = h }
+
+    pub passed-fits : Fits w32 k
+    passed-fits = let f = p .holes .few in let l = p .low in let m = p .all .few in record { fits = omega arith }
 
     pub passed-all : n ≤ r → Holes ws hs k n
     passed-all le = let l = p .low in let e : r ≡ n = omega arith in rw e at (p .holes)

@@ -1,5 +1,6 @@
 // The program's text: a file is read and solved once, and then each line is made in a lent buffer.
 use file::read;
+use records::note;
 use rules::Reply;
 use solver::solve;
 use solver::write_answer;
@@ -7,11 +8,11 @@ use table::HO;
 use table::Hole;
 use text::hole_line;
 use text::reply_line;
-ghost use Prim.Native.Nat.{_+_, _≤_};
+ghost use Prim.Native.Nat.{_≤_};
 ghost use lib.ListN.{length};
 ghost use Rattle.rules.specs.Answers.{reply};
 ghost use Rattle.rules.specs.Text.{replyLine};
-ghost use Rattle.lines.specs.Holes.{Noting, Notable, Holes};
+ghost use Rattle.lines.specs.Holes.{Notable, Holes};
 ghost use Rattle.lines.specs.Lines.{Blank, Lines};
 ghost use Rattle.lines.specs.Making.{longest, Stands, Makes, Made};
 
@@ -19,19 +20,6 @@ ghost use Rattle.lines.specs.Making.{longest, Stands, Makes, Made};
 pub struct Begun {
     pub reply: Reply,
     pub holes: u32,
-}
-
-// Record r is noted if it is a hole; how many are noted then.
-fn note(table: &[u32], holes: &mut [u16], count: u32, r: u32) -> u32
-    requires { ⌜ Noting (now table) (now holes) count r ⌝ }
-    ensures { λ k. ⌜ Holes (now (table .entry)) (now (holes .exit)) k (r + 1) ⌝ }
-{
-    let x = table::read(table, r);
-    if x.tag != HO {
-        return count;
-    }
-    holes[count as usize] = r as u16;
-    count + 1
 }
 
 // The input holes are noted in order; how many there are.
@@ -42,10 +30,10 @@ fn note_holes(table: &[u32], holes: &mut [u16], n: u32) -> u32
     let mut count = 0;
     let mut r = 0;
     while r < n {
-        count = note(table, holes, count, r);
+        count = note(table, holes, count, r, HO);
         r += 1;
     }
-    count
+    count as u32
 }
 
 // A file is read and solved, with the room that the program has; its input holes are noted.

@@ -33,7 +33,7 @@ pub record Going (ws ms₀ la₀ be₀ es₀ ms la be es : List ℕ) (n r k : �
   pub asks : BrokenAsks ws ms₀ la₀ be₀ es₀ n
   pub passed : Passed ws ms la be r
   pub left : broken ws n ≡ ahead n (λ i. not (keeps ws i)) r
-  pub noted : Noted ws es k r
+  pub noted : Noted EQ ws es k r
   pub within : r ≤ n
   pub marks : length ms ≡ length ms₀
   pub last : length la ≡ length la₀
@@ -78,7 +78,7 @@ module _ (ws ms₀ la₀ be₀ es₀ ms la be es : List ℕ) (n r k : ℕ) (g : 
         passed = g .passed;
       }
 
-  pub going-notes : r < n → NoteAsks ws es k r
+  pub going-notes : r < n → NoteAsks EQ ws es k r
   going-notes h =
       let i = g .asks .inside in
       let f = g .asks .few in
@@ -94,7 +94,7 @@ module _ (ws ms₀ la₀ be₀ es₀ ms la be es : List ℕ) (n r k : ℕ) (g : 
     }
 
     pub going-on : not b ≡ false → length ms₁ ≡ length ms → length la₁ ≡ length la → length be₁ ≡ length be
-        → (es₁ : List ℕ) (k₁ : ℕ) → Noted ws es₁ k₁ (r + 1) → length es₁ ≡ length es → Going ws ms₀ la₀ be₀ es₀ ms₁ la₁ be₁ es₁ n (r + 1) k₁
+        → (es₁ : List ℕ) (k₁ : ℕ) → Noted EQ ws es₁ k₁ (r + 1) → length es₁ ≡ length es → Going ws ms₀ la₀ be₀ es₀ ms₁ la₁ be₁ es₁ n (r + 1) k₁
     going-on t lm la be es₁ k₁ m le = record {
       asks = g .asks;
       passed = s .next (not-false _ t);

@@ -1,4 +1,4 @@
--- The equations are noted in record order.
+-- The records of one tag are noted in record order.
 use Prim.Native.Nat.{ℕ, _+_, _*_, _<_}
 use mathlib.Core.Path.{_≡_}
 use mathlib.Core.List.{List}
@@ -11,16 +11,16 @@ use Rattle.laws.specs.Noted.{Noted as Noted-of}
 use Rattle.records.specs.declared.Pass.{Pass}
 use Rattle.records.specs.declared.Pass.the-variants.{Broken, Sound}
 
--- the first k of the notes are the equations among the first r records
-abbrev pub Noted : List ℕ → List ℕ → ℕ → ℕ → Type 0
-Noted ws es k r = Noted-of (λ e. has ws e EQ) es k r
+-- the first k of the notes are the records of tag t among the first r
+abbrev pub Noted : ℕ → List ℕ → List ℕ → ℕ → ℕ → Type 0
+Noted t ws es k r = Noted-of (λ e. has ws e t) es k r
 
--- record r lies in the table, can be noted, and the lower equations are
-pub record NoteAsks (ws es : List ℕ) (k r : ℕ) : Type 0 where
+-- record r lies in the table, can be noted, and the lower records of tag t are
+pub record NoteAsks (t : ℕ) (ws es : List ℕ) (k r : ℕ) : Type 0 where
   pub inside : 4 * r + 3 < length ws
   pub low : r < 4096
   pub room : r < length es
-  pub lower : Noted ws es k r
+  pub lower : Noted t ws es k r
 
 -- where a pass found a broken record
 abbrev pub foundOf : Pass → Found
@@ -30,4 +30,4 @@ foundOf (Sound k) = Nowhere
 -- the lowest broken record; where there is none, all equations are noted
 pub record BrokenSays (ws es : List ℕ) (n : ℕ) (x : Pass) : Type 0 where
   pub found : foundOf x ≡ broken ws n
-  pub noted : (k : ℕ) → x ≡ Sound k → Noted ws es k n
+  pub noted : (k : ℕ) → x ≡ Sound k → Noted EQ ws es k n

@@ -273,16 +273,16 @@ fn mark_record(
     }
 }
 
-// Record r is noted if it is an equation; how many are noted then.
-fn note(table: &[u32], equations: &mut [u16], count: usize, r: u32) -> usize
-    requires { ⌜ NoteAsks (now table) (now equations) count r ⌝ }
-    ensures { λ k. ⌜ Noted (now (table .entry)) (now (equations .exit)) k (r + 1) ⌝ }
+// Record r is noted if it has this tag; how many are noted then.
+pub fn note(table: &[u32], notes: &mut [u16], count: usize, r: u32, tag: u32) -> usize
+    requires { ⌜ NoteAsks tag (now table) (now notes) count r ⌝ }
+    ensures { λ k. ⌜ Noted tag (now (table .entry)) (now (notes .exit)) k (r + 1) ⌝ }
 {
     let x = read(table, r);
-    if x.tag != EQ {
+    if x.tag != tag {
         return count;
     }
-    equations[count] = r as u16;
+    notes[count] = r as u16;
     count + 1
 }
 
@@ -304,7 +304,7 @@ pub fn broken(
         if !mark_record(table, marks, last, before, r) {
             return Pass::Broken(r);
         }
-        count = note(table, equations, count, r);
+        count = note(table, equations, count, r, EQ);
         r += 1;
     }
     Pass::Sound(count)

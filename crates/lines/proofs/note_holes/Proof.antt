@@ -2,7 +2,7 @@
 use Prim.Native.Nat.{_-_}
 use native.Mathlib.Omega.{arith}
 use borrow.Author.Needs.{needs}
-use Rattle.lines.proofs.Noting.{Passed, passed-none, passed-asks, passed-more, passed-all}
+use Rattle.lines.proofs.Noting.{Passed, passed-none, passed-asks, passed-more, passed-fits, passed-all}
 use Rattle.lines.proofs.note_holes.Statement.{statement}
 use Rattle.lines.proofs.note_holes.Tie as tie
 
@@ -24,4 +24,5 @@ note-holes-spec =
     (λ c. omega arith)
     (λ c. search passed-more)
     (λ c. search needs)
+    (λ c. search passed-fits)
     (λ c. search passed-all))

@@ -1,6 +1,6 @@
 -- `records::note` meets its contract.
 use borrow.Author.Needs.{needs}
-use Rattle.records.proofs.Noting.{note-other, note-equation}
+use Rattle.records.proofs.Noting.{note-other, note-one}
 use Rattle.records.proofs.note.Statement.{statement}
 use Rattle.records.proofs.note.Tie as tie
 
@@ -15,4 +15,4 @@ note-spec =
     (λ c. search needs)
     (λ c. search needs)
     (λ c. search needs)
-    (λ c. search note-equation))
+    (λ c. search note-one))
