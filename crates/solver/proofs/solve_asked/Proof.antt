@@ -9,6 +9,17 @@ use Rattle.checks.proofs.out_of_room.Reads as out-of-room-reads
 use Rattle.solver.proofs.check_few.Reads as check-few-reads
 use Rattle.solver.proofs.check_all.Reads as check-all-reads
 
+-- the input was found to lie within its words
+few-requires : tie.Need-check-few-requires
+few-requires c κs =
+    let found = c .before .before .before .before in
+    inside-few _ _ _ _ (found .before .out-of-room .ensures) (found .if1 .left) 256 (c .before .before .before .if2 .taken)
+
+all-requires : tie.Need-check-all-requires
+all-requires c κs =
+    let found = c .before .before .before .before in
+    inside-most _ _ _ _ (found .before .out-of-room .ensures) (found .if1 .left)
+
 pub solve-asked-spec : {M : Type 1} → statement M
 solve-asked-spec =
     tie.close
@@ -19,13 +30,13 @@ solve-asked-spec =
     (λ c. search needs)
     (λ c. search left-outside)
     (λ c. search inside-fits)
-    (λ c κs. inside-few _ _ _ _ (c .before .before .before .before .before .out-of-room .ensures) (c .before .before .before .before .if1 .left) 256 (c .before .before .before .if2 .taken))
+    few-requires
     (λ c. search needs)
     (λ c. search needs)
     (λ c. search needs)
     (λ c. search needs)
     (λ c. search inside-fits)
-    (λ c κs. inside-most _ _ _ _ (c .before .before .before .before .before .out-of-room .ensures) (c .before .before .before .before .if1 .left))
+    all-requires
     (λ c. search needs)
     (λ c. search needs)
     (λ c. search needs)
