@@ -21,7 +21,7 @@ use Rattle.laws.specs.Lists.{Listed, elements-none, elements-cell}
 use Rattle.store.specs.Said.{Does}
 use Rattle.places.specs.Maps.{leads, leads-none, leads-some, placesOf, mapOf, side, Whole, places-length, places-more, places-end}
 use Rattle.places.specs.Lists.{to-cell, to-rest}
-use Rattle.narrow.specs.Cells.{Celling}
+use Rattle.store.specs.Cells.{Celling}
 
 -- the context entries at these positions
 abbrev pub contexts : List ℕ → ℕ → List ℕ → List ℕ

@@ -15,13 +15,15 @@ use Rattle.narrow.specs.declared.Narrowed.{Narrowed}
 use Rattle.narrow.specs.declared.Narrowed.the-variants.{To, Failed as Fell}
 use Rattle.places.specs.declared.Map.{Map}
 use Rattle.table.specs.Reading.{IsRecord}
-use Rattle.rules.specs.Words.{fieldA, fieldB, elements}
+use Rattle.rules.specs.Words.{tag, fieldA, fieldB, elements}
 use Rattle.rules.specs.Store.{Store, Out, goes, _>>=_, pushCells, pushOccurrence, settle}
 use Rattle.rules.specs.Walk.{narrow, keepPlaced}
 use Rattle.laws.specs.Lists.{Listed}
+use Rattle.invariants.specs.Floor.{Sub, Fine}
+use Rattle.invariants.specs.Grow.{listed-of}
 use Rattle.store.specs.Said.{store, shown, Since, since-root, since-failed, Does, Then, Does², Then², under, bind-assoc}
 use Rattle.places.specs.Maps.{mapOf, Whole, side}
-use Rattle.narrow.specs.Writing.{Writing}
+use Rattle.store.specs.Writing.{Writing}
 use Rattle.narrow.specs.Context.{contexts, Choosing}
 
 -- what narrowing answers, as an answer whose record is the new hole
@@ -125,3 +127,24 @@ module _ (ws ss : List ℕ) (n u R h : ℕ) (m : Map) where
 
   pub narrowing-occurs : (ws₁ : List ℕ) (x : Walked) → Narrowing ws ss n u R h m → length ws₁ ≡ length ws → Since n x → Occurring ws₁ n R m x
   narrowing-occurs ws₁ x p e s = let g = p .room in record { room = omega arith; whole = p .whole; since = s }
+
+-- the hole of an occurrence, in a fine store, can be narrowed if its context has as many entries as the occurrence has arguments
+module _ (R n : ℕ) (home : ℕ → ℕ) (ws ss : List ℕ) (used b r : ℕ) (f : Fine R n home (store ws ss used)) (is : Sub ws home b used r) (w : Record) (e : IsRecord ws r w) where
+  pub narrows : tag ws r ≡ 9 → (kept : Map) → Whole kept → length (elements ws (fieldA ws (fieldA ws r))) ≡ kept .len → Narrowing ws ss n used R (w .a) kept
+  narrows nine kept whole arity =
+      let o = f .good r (is .below) .occ nine in
+      let a = o .below in
+      let lt = is .below in
+      let wi = f .within in
+      let he = f .held in
+      let ro = f .room in
+      let hl = f .good (fieldA ws r) (omega arith) .hole (o .hole) in
+      rw (e .a-is) (record {
+        room = ro;
+        since = f .since;
+        whole = whole;
+        hole = omega arith;
+        held = omega arith;
+        context = listed-of R n home (store ws ss used) (fieldA ws (fieldA ws r)) f (λ q. let c = hl q .0 in (omega arith, hl q .1));
+        arity = arity;
+      })

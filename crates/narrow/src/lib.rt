@@ -1,29 +1,21 @@
-// Lists of noted records, occurrences written from a map, narrowing, and keeping the arguments that have a place.
+// Narrowing a hole, and keeping the arguments of an occurrence that have a place.
 use places::Map;
 use places::all_placed;
 use rules::Failure;
 use store::Walked;
-use store::push;
-use store::then_over;
+use store::push_cells;
+use store::push_occurrence;
 use store::then_under;
-use table::CE;
-use table::HA;
 use table::HO;
 use table::Hole;
 use table::NONE;
-use table::VA;
-use table::Variable;
 use table::read;
-ghost use mathlib.Core.Path.{_≡_};
 ghost use mathlib.Core.Bool.{true, false};
 ghost use Prim.Native.Nat.{_<_};
-ghost use lib.ListN.{take};
-ghost use Rattle.rules.specs.Store.{pushVariables, pushCells, pushOccurrence};
+ghost use Rattle.rules.specs.Store.{pushCells};
 ghost use Rattle.rules.specs.Walk.{narrow as narrowOf, keepPlaced};
 ghost use Rattle.store.specs.Said.{Does, Then, Does², Then²};
 ghost use Rattle.places.specs.Maps.{mapOf, side};
-ghost use Rattle.narrow.specs.Cells.{Celling};
-ghost use Rattle.narrow.specs.Writing.{Writing, variableOf};
 ghost use Rattle.narrow.specs.Context.{Choosing, contexts};
 ghost use Rattle.narrow.specs.Narrowing.{rooted, settling, Settling, occurring, Occurring, Narrowing};
 
@@ -32,94 +24,6 @@ ghost use Rattle.narrow.specs.Narrowing.{rooted, settling, Settling, occ
 pub enum Narrowed {
     To { used: u32, hole: Hole },
     Failed(Failure),
-}
-
-// Cells for the first k of the noted records, last first.
-pub fn push_cells(
-    table: &mut [u32],
-    n: u32,
-    used: u32,
-    room: u32,
-    noted: &[u32],
-    k: usize,
-) -> Walked
-    requires { ⌜ Celling (now table) n used room (now noted) k ⌝ }
-    ensures { λ r. ⌜ Does n (pushCells room (take k (now (noted .entry)))) (now (table .entry)) used (now (table .exit)) r ⌝ }
-{
-    let mut i = k;
-    let mut list = NONE;
-    let mut taken = used;
-    while 0 < i {
-        i -= 1;
-        match push(table, n, taken, room, CE, noted[i], list) {
-            Walked::Failed(e) => return Walked::Failed(e),
-            Walked::Root { root, used: then } => {
-                list = root;
-                taken = then;
-            }
-        }
-    }
-    Walked::Root {
-        root: list,
-        used: taken,
-    }
-}
-
-// The variable that stands for a position with a place: the position, or the place.
-fn variable(froms: bool, position: usize, place: u32) -> Variable
-    requires { ⌜ position < 16 ⌝ }
-    ensures { λ r. ⌜ variableOf froms position place ≡ r .0 ⌝ }
-{
-    if froms {
-        return Variable(position as u32);
-    }
-    Variable(place)
-}
-
-// Bare variables for the positions that have a place, in order, then their cells from last to first.
-fn push_variables(table: &mut [u32], n: u32, used: u32, room: u32, map: Map, froms: bool) -> Walked
-    requires { ⌜ Writing (now table) n used room map ⌝ }
-    ensures { λ r. ⌜ Does n (pushVariables room (side froms (mapOf false map))) (now (table .entry)) used (now (table .exit)) r ⌝ }
-{
-    let mut noted = [0u32; 16];
-    let mut k = 0;
-    let mut taken = used;
-    let len = map.len;
-    let mut i = 0;
-    while i < len {
-        let place = map.places[i];
-        let v = variable(froms, i, place);
-        i += 1;
-        if place == NONE {
-            continue;
-        }
-        match push(table, n, taken, room, VA, v.0, NONE) {
-            Walked::Failed(e) => return Walked::Failed(e),
-            Walked::Root { root, used: then } => {
-                noted[k] = root;
-                k += 1;
-                taken = then;
-            }
-        }
-    }
-    push_cells(table, n, taken, room, &noted, k)
-}
-
-// The hole applied to the variables that the map leads from, or to.
-pub fn push_occurrence(
-    table: &mut [u32],
-    n: u32,
-    used: u32,
-    room: u32,
-    hole: Hole,
-    map: Map,
-    froms: bool,
-) -> Walked
-    requires { ⌜ Writing (now table) n used room map ⌝ }
-    ensures { λ r. ⌜ Does n (pushOccurrence room (hole .0) (side froms (mapOf false map))) (now (table .entry)) used (now (table .exit)) r ⌝ }
-{
-    let xs = push_variables(table, n, used, room, map, froms);
-    then_over(table, n, room, HA, hole.0, xs)
 }
 
 // Context cells for the positions that have a place, last first.

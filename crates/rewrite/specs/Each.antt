@@ -17,8 +17,8 @@ use Rattle.rules.specs.Rewrite.{Writer, writeAll}
 use Rattle.laws.specs.Lists.{size, elements-none}
 use Rattle.invariants.specs.Rise.{reach}
 use Rattle.store.specs.Said.{store, shown, since-failed, Does}
-use Rattle.narrow.specs.Cells.{Celling}
-use Rattle.narrow.specs.Each.{writeRest, writes-all, rest-end, rest-stops, rest-goes}
+use Rattle.store.specs.Cells.{Celling}
+use Rattle.store.specs.Each.{writeRest, writes-all, rest-end, rest-stops, rest-goes}
 use Rattle.rewrite.specs.Terms.{IsCell}
 use Rattle.rewrite.specs.Writes.{WritesTerm, WritesList}
 

@@ -6,15 +6,12 @@ use native.Mathlib.Omega.{arith}
 use lib.ListN.{length}
 use Rattle.table.specs.declared.Record.{Record}
 use Rattle.table.specs.Reading.{IsRecord}
-use Rattle.rules.specs.Words.{NONE, tag, fieldA, fieldB, elements, arguments, variables}
+use Rattle.rules.specs.Words.{NONE, tag, fieldB, elements, arguments, variables}
 use Rattle.laws.specs.Lists.{Cell, Listed, size, size-real, size-below, elements-cell}
 use Rattle.invariants.specs.Floor.{Sub, All, Args, Fine, limit}
 use Rattle.invariants.specs.Grow.{all-map, listed-of, args-less}
 use Rattle.invariants.specs.Copy.{occurrence-low}
-use Rattle.places.specs.declared.Map.{Map}
-use Rattle.places.specs.Maps.{Whole}
 use Rattle.places.specs.Lists.{Counts, varsOf}
-use Rattle.narrow.specs.Narrowing.{Narrowing}
 use Rattle.store.specs.Said.{store}
 
 module _ (R n : ℕ) (home : ℕ → ℕ) (ws ss : List ℕ) (used b r : ℕ) (f : Fine R n home (store ws ss used)) (is : Sub ws home b used r) where
@@ -77,26 +74,6 @@ module _ (R n : ℕ) (home : ℕ → ℕ) (ws ss : List ℕ) (used b r : ℕ) (f
         let wi = f .within in
         let fe = f .few in
         rw (e .b-is) (all-map (λ v. v ≤ limit r) (λ v. v < NONE) (λ v q. omega arith) (variables ws r) (occurrence-low R n home (store ws ss used) r f lt nine))
-
-    -- a hole with as many context variables as the occurrence has arguments can be narrowed
-    pub narrows : tag ws r ≡ 9 → (kept : Map) → Whole kept → length (elements ws (fieldA ws (fieldA ws r))) ≡ kept .len → Narrowing ws ss n used R (w .a) kept
-    narrows nine kept whole arity =
-        let o = f .good r (is .below) .occ nine in
-        let a = o .below in
-        let lt = is .below in
-        let wi = f .within in
-        let he = f .held in
-        let ro = f .room in
-        let hl = f .good (fieldA ws r) (omega arith) .hole (o .hole) in
-        rw (e .a-is) (record {
-          room = ro;
-          since = f .since;
-          whole = whole;
-          hole = omega arith;
-          held = omega arith;
-          context = listed-of R n home (store ws ss used) (fieldA ws (fieldA ws r)) f (λ q. let c = hl q .0 in (omega arith, hl q .1));
-          arity = arity;
-        })
 
 module _ (R n : ℕ) (home : ℕ → ℕ) (ws ss : List ℕ) (used b l : ℕ) (f : Fine R n home (store ws ss used)) (is : Args ws home b used l) where
   list-at : Listed ws l

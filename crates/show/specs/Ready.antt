@@ -23,7 +23,7 @@ use Rattle.places.specs.Maps.{mapOf, Whole}
 use Rattle.places.specs.Looking.{Looks}
 use Rattle.places.specs.Lists.{varsOf}
 use Rattle.places.specs.Follow.{Followed}
-use Rattle.narrow.specs.Writing.{Writing}
+use Rattle.store.specs.Writing.{Writing}
 use Rattle.rewrite.specs.Renamed.{Renaming}
 use Rattle.rewrite.specs.Renamings.{Renamings}
 use Rattle.rewrite.specs.Levels.{Headed, of-constant}

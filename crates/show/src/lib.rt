@@ -1,6 +1,4 @@
 // Show: one hole's answer with all solved holes expanded, written into the output.
-use narrow::push_cells;
-use narrow::push_occurrence;
 use places::Map;
 use places::in_order;
 use rewrite::renamed;
@@ -8,6 +6,8 @@ use rewrite::renamings;
 use rewrite::then_lambdas;
 use store::Walked;
 use store::push;
+use store::push_cells;
+use store::push_occurrence;
 use store::solution_of;
 use store::then_over;
 use table::HA;

@@ -22,8 +22,8 @@ use Rattle.store.specs.Said.{store, shown, Does²}
 use Rattle.places.specs.Maps.{mapOf, Whole, side}
 use Rattle.places.specs.Lists.{Counts}
 use Rattle.places.specs.Agree.{Comparing, Agrees}
-use Rattle.narrow.specs.Narrowing.{Narrowing}
-use Rattle.rewrite.specs.Parts.{term-read, counts-of, narrows}
+use Rattle.narrow.specs.Narrowing.{Narrowing, narrows}
+use Rattle.rewrite.specs.Parts.{term-read, counts-of}
 use Rattle.queue.specs.Ring.{view}
 use Rattle.step.specs.Said.{stepped, Quiet, ThenFinishes, quiet-done}
 

@@ -1,13 +1,22 @@
 // What is written into lent words: records appended through the part that starts at record n, with the answer; words set, records cleared.
+use places::Map;
 use rules::Failure;
+use table::CE;
+use table::HA;
 use table::Hole;
 use table::NONE;
+use table::VA;
+use table::Variable;
 ghost use mathlib.Core.Path.{_≡_};
+ghost use mathlib.Core.Bool.{false};
 ghost use Prim.Native.Nat.{_+_, _*_, _<_, _≤_};
-ghost use lib.ListN.{length, getD, replicate};
-ghost use Rattle.rules.specs.Store.{put as putAt, push as pushOf};
+ghost use lib.ListN.{length, getD, replicate, take};
+ghost use Rattle.rules.specs.Store.{put as putAt, push as pushOf, pushCells, pushVariables, pushOccurrence};
+ghost use Rattle.places.specs.Maps.{mapOf, side};
 ghost use Rattle.rules.specs.Solve.{filled};
 ghost use Rattle.store.specs.Said.{Since, Does, Then, over, under};
+ghost use Rattle.store.specs.Cells.{Celling};
+ghost use Rattle.store.specs.Writing.{Writing, variableOf};
 ghost use Rattle.store.specs.Clearing.{Clearing, Cleared};
 ghost use Rattle.store.specs.Unused.{Unused};
 
@@ -76,6 +85,94 @@ pub fn solution_of(solutions: &[u32], hole: Hole) -> u32
 {
     let h = hole.0 as usize;
     solutions[h]
+}
+
+// Cells for the first k of the noted records, last first.
+pub fn push_cells(
+    table: &mut [u32],
+    n: u32,
+    used: u32,
+    room: u32,
+    noted: &[u32],
+    k: usize,
+) -> Walked
+    requires { ⌜ Celling (now table) n used room (now noted) k ⌝ }
+    ensures { λ r. ⌜ Does n (pushCells room (take k (now (noted .entry)))) (now (table .entry)) used (now (table .exit)) r ⌝ }
+{
+    let mut i = k;
+    let mut list = NONE;
+    let mut taken = used;
+    while 0 < i {
+        i -= 1;
+        match push(table, n, taken, room, CE, noted[i], list) {
+            Walked::Failed(e) => return Walked::Failed(e),
+            Walked::Root { root, used: then } => {
+                list = root;
+                taken = then;
+            }
+        }
+    }
+    Walked::Root {
+        root: list,
+        used: taken,
+    }
+}
+
+// The variable that stands for a position with a place: the position, or the place.
+fn variable(froms: bool, position: usize, place: u32) -> Variable
+    requires { ⌜ position < 16 ⌝ }
+    ensures { λ r. ⌜ variableOf froms position place ≡ r .0 ⌝ }
+{
+    if froms {
+        return Variable(position as u32);
+    }
+    Variable(place)
+}
+
+// Bare variables for the positions that have a place, in order, then their cells from last to first.
+fn push_variables(table: &mut [u32], n: u32, used: u32, room: u32, map: Map, froms: bool) -> Walked
+    requires { ⌜ Writing (now table) n used room map ⌝ }
+    ensures { λ r. ⌜ Does n (pushVariables room (side froms (mapOf false map))) (now (table .entry)) used (now (table .exit)) r ⌝ }
+{
+    let mut noted = [0u32; 16];
+    let mut k = 0;
+    let mut taken = used;
+    let len = map.len;
+    let mut i = 0;
+    while i < len {
+        let place = map.places[i];
+        let v = variable(froms, i, place);
+        i += 1;
+        if place == NONE {
+            continue;
+        }
+        match push(table, n, taken, room, VA, v.0, NONE) {
+            Walked::Failed(e) => return Walked::Failed(e),
+            Walked::Root { root, used: then } => {
+                noted[k] = root;
+                k += 1;
+                taken = then;
+            }
+        }
+    }
+    push_cells(table, n, taken, room, &noted, k)
+}
+
+// The hole applied to the variables that the map leads from, or to.
+pub fn push_occurrence(
+    table: &mut [u32],
+    n: u32,
+    used: u32,
+    room: u32,
+    hole: Hole,
+    map: Map,
+    froms: bool,
+) -> Walked
+    requires { ⌜ Writing (now table) n used room map ⌝ }
+    ensures { λ r. ⌜ Does n (pushOccurrence room (hole .0) (side froms (mapOf false map))) (now (table .entry)) used (now (table .exit)) r ⌝ }
+{
+    let xs = push_variables(table, n, used, room, map, froms);
+    then_over(table, n, room, HA, hole.0, xs)
 }
 
 // Every word becomes x.

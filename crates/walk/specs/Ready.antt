@@ -31,12 +31,12 @@ use Rattle.places.specs.Maps.{Whole, mapOf, side}
 use Rattle.places.specs.Looking.{Looks, Within}
 use Rattle.places.specs.Lists.{varsOf}
 use Rattle.places.specs.Follow.{Following, Followed}
-use Rattle.narrow.specs.Writing.{Writing}
-use Rattle.narrow.specs.Narrowing.{Narrowing}
+use Rattle.store.specs.Writing.{Writing}
+use Rattle.narrow.specs.Narrowing.{Narrowing, narrows}
 use Rattle.rewrite.specs.Renamings.{Renamings}
 use Rattle.rewrite.specs.Levels.{Headed}
 use Rattle.rewrite.specs.Writes.{writes-rigid}
-use Rattle.rewrite.specs.Parts.{counts-at, hole-held, narrows}
+use Rattle.rewrite.specs.Parts.{counts-at, hole-held}
 use Rattle.rewrite.specs.Terms.{TermAt, ListAt, at-read, at-low, at-less, at-body, at-variable, at-size, at-args}
 use Rattle.walk.specs.Head.{headOf, head-at, head-plain}
 use Rattle.walk.specs.Walks.{unrolls, mapAt, WalksTerm, WalksList, WalksHole, walk-hole, hole-kept, hole-hops}

@@ -1,7 +1,5 @@
 // The walk of the other side for the hole that is solved, and copying, which is a walk for no hole.
 use narrow::keep_placed;
-use narrow::push_cells;
-use narrow::push_occurrence;
 use places::Map;
 use places::Place;
 use places::arguments;
@@ -13,6 +11,8 @@ use rules::Failure;
 use rules::Found;
 use store::Walked;
 use store::push;
+use store::push_cells;
+use store::push_occurrence;
 use store::solution_of;
 use store::then_over;
 use store::then_under;

@@ -6,7 +6,7 @@ use Rattle.narrow.proofs.keep_placed.Tie as tie
 use Rattle.narrow.proofs.keep_placed.Reads as reads
 use Rattle.narrow.proofs.keep_placed.Lts as lts
 use Rattle.narrow.proofs.narrow.Reads as narrow-reads
-use Rattle.narrow.proofs.push_occurrence.Reads as push-occurrence-reads
+use Rattle.store.proofs.push_occurrence.Reads as push-occurrence-reads
 use Rattle.narrow.proofs.then_occurrence.Reads as then-occurrence-reads
 
 pub keep-placed-spec : {M : Type 1} → statement M

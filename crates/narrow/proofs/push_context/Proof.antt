@@ -8,7 +8,7 @@ use Rattle.narrow.proofs.push_context.Statement.{statement}
 use Rattle.narrow.proofs.push_context.Tie as tie
 use Rattle.narrow.proofs.push_context.Reads as reads
 use Rattle.narrow.proofs.push_context.Lts as lts
-use Rattle.narrow.proofs.push_cells.Reads as push-cells-reads
+use Rattle.store.proofs.push_cells.Reads as push-cells-reads
 use Rattle.table.proofs.read.Reads as read-reads
 
 abbrev Inv-loop : tie.InvT-loop

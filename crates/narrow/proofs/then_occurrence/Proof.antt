@@ -5,7 +5,7 @@ use Rattle.narrow.proofs.then_occurrence.Statement.{statement}
 use Rattle.narrow.proofs.then_occurrence.Tie as tie
 use Rattle.narrow.proofs.then_occurrence.Reads as reads
 use Rattle.narrow.proofs.then_occurrence.Lts as lts
-use Rattle.narrow.proofs.push_occurrence.Reads as push-occurrence-reads
+use Rattle.store.proofs.push_occurrence.Reads as push-occurrence-reads
 
 pub then-occurrence-spec : {M : Type 1} → statement M
 then-occurrence-spec =

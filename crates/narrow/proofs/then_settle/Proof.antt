@@ -6,7 +6,7 @@ use Rattle.narrow.proofs.then_settle.Statement.{statement}
 use Rattle.narrow.proofs.then_settle.Tie as tie
 use Rattle.narrow.proofs.then_settle.Reads as reads
 use Rattle.narrow.proofs.then_settle.Lts as lts
-use Rattle.narrow.proofs.push_occurrence.Reads as push-occurrence-reads
+use Rattle.store.proofs.push_occurrence.Reads as push-occurrence-reads
 
 pub then-settle-spec : {M : Type 1} → statement M
 then-settle-spec =

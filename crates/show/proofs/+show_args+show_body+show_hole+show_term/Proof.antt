@@ -29,8 +29,8 @@ use Rattle.show.proofs.+show_args+show_body+show_hole+show_term.Lts-sho
 use Rattle.show.proofs.show_term.Reads as show-term
 use Rattle.show.proofs.show_term.Kinds as show-term-kinds
 use Rattle.show.proofs.+show_args+show_body+show_hole+show_term.Lts-show_term as show-term-lts
-use Rattle.narrow.proofs.push_cells.Reads as push-cells-reads
-use Rattle.narrow.proofs.push_occurrence.Reads as push-occurrence-reads
+use Rattle.store.proofs.push_cells.Reads as push-cells-reads
+use Rattle.store.proofs.push_occurrence.Reads as push-occurrence-reads
 use Rattle.rewrite.proofs.renamed.Reads as renamed-reads
 use Rattle.rewrite.proofs.renamings.Reads as renamings-reads
 use Rattle.rewrite.proofs.then_lambdas.Reads as then-lambdas-reads

@@ -31,8 +31,8 @@ use Rattle.walk.proofs.walk_term.Reads as walk-term
 use Rattle.walk.proofs.walk_term.Kinds as walk-term-kinds
 use Rattle.walk.proofs.+walk_args+walk_argument+walk_body+walk_hole+walk_term.Lts-walk_term as walk-term-lts
 use Rattle.narrow.proofs.keep_placed.Reads as keep-placed-reads
-use Rattle.narrow.proofs.push_cells.Reads as push-cells-reads
-use Rattle.narrow.proofs.push_occurrence.Reads as push-occurrence-reads
+use Rattle.store.proofs.push_cells.Reads as push-cells-reads
+use Rattle.store.proofs.push_occurrence.Reads as push-occurrence-reads
 use Rattle.places.proofs.follow.Reads as follow-reads
 use Rattle.rewrite.proofs.renamings.Reads as renamings-reads
 use Rattle.rewrite.proofs.then_lambdas.Reads as then-lambdas-reads

@@ -1,16 +1,16 @@
--- `narrow::push_variables` meets its contract.
+-- `store::push_variables` meets its contract.
 use borrow.Author.Needs.{needs}
 use native.Mathlib.Omega.{arith}
 use Prim.Native.Nat.{_-_}
 use Rattle.places.specs.Filling.{fits-index, fits-next}
-use Rattle.narrow.specs.Writing.{Named, named-first, named-slot, named-skip, named-stops, named-takes, named-cells, named-end}
-use Rattle.narrow.proofs.push_variables.Statement.{statement}
-use Rattle.narrow.proofs.push_variables.Tie as tie
-use Rattle.narrow.proofs.push_variables.Reads as reads
-use Rattle.narrow.proofs.push_variables.Lts as lts
-use Rattle.narrow.proofs.push_cells.Reads as push-cells-reads
-use Rattle.narrow.proofs.variable.Reads as variable-reads
+use Rattle.store.specs.Writing.{Named, named-first, named-slot, named-skip, named-stops, named-takes, named-cells, named-end}
+use Rattle.store.proofs.push_variables.Statement.{statement}
+use Rattle.store.proofs.push_variables.Tie as tie
+use Rattle.store.proofs.push_variables.Reads as reads
+use Rattle.store.proofs.push_variables.Lts as lts
+use Rattle.store.proofs.push_cells.Reads as push-cells-reads
+use Rattle.store.proofs.variable.Reads as variable-reads
 use Rattle.store.proofs.push.Reads as push-reads
 
 abbrev Inv-loop : tie.InvT-loop
 Inv-loop table₀ n used room froms map noted₀ k₀ taken₀ len i₀ table noted k taken i = Named room n froms map table₀ used table noted k taken i

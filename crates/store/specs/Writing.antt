@@ -8,17 +8,17 @@ use native.Mathlib.Numerals.{add-one}
 use lib.ListN.{length, getD, take, drop, set, length-set, replicate}
 use lib.Seq.{take-suc-set}
 use Rattle.rules.specs.declared.Failure.{Failure}
 use Rattle.store.specs.declared.Walked.{Walked}
 use Rattle.store.specs.declared.Walked.the-variants.{Root, Failed}
 use Rattle.places.specs.declared.Map.{Map}
 use Rattle.rules.specs.Words.{NONE, CE, VA}
 use Rattle.rules.specs.Store.{Store, _>>=_, push, pushCells, pushVariables, pushOccurrence}
 use Rattle.rules.specs.Map.{Map as Pairs}
 use Rattle.rules.specs.Rewrite.{Writer, writeAll}
 use Rattle.store.specs.Said.{store, since-failed, Does, Then, over}
 use Rattle.places.specs.Maps.{leads, leads-none, leads-some, placesOf, mapOf, Whole, side, places-more, places-end}
-use Rattle.narrow.specs.Each.{writeRest, bind-same, writes-all, rest-end, rest-stops, rest-goes}
-use Rattle.narrow.specs.Cells.{Celling}
+use Rattle.store.specs.Each.{writeRest, bind-same, writes-all, rest-end, rest-stops, rest-goes}
+use Rattle.store.specs.Cells.{Celling}
 
 -- what writing from a map asks
 pub record Writing (ws : List ℕ) (n u R : ℕ) (m : Map) : Type 0 where

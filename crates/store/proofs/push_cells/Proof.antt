@@ -1,12 +1,12 @@
--- `narrow::push_cells` meets its contract.
+-- `store::push_cells` meets its contract.
 use borrow.Author.Needs.{needs}
 use native.Mathlib.Omega.{arith}
-use Rattle.narrow.specs.Cells.{Behind, behind-first, behind-asks, behind-stops, behind-more, behind-end}
-use Rattle.narrow.proofs.push_cells.Statement.{statement}
-use Rattle.narrow.proofs.push_cells.Tie as tie
-use Rattle.narrow.proofs.push_cells.Reads as reads
-use Rattle.narrow.proofs.push_cells.Lts as lts
+use Rattle.store.specs.Cells.{Behind, behind-first, behind-asks, behind-stops, behind-more, behind-end}
+use Rattle.store.proofs.push_cells.Statement.{statement}
+use Rattle.store.proofs.push_cells.Tie as tie
+use Rattle.store.proofs.push_cells.Reads as reads
+use Rattle.store.proofs.push_cells.Lts as lts
 use Rattle.store.proofs.push.Reads as push-reads
 
 abbrev Inv-loop : tie.InvT-loop
 Inv-loop table₀ n used room noted k i₀ list₀ taken₀ table i list taken = Behind room n noted k table₀ used table i list taken
