@@ -6,7 +6,7 @@ use native.Mathlib.Omega.{arith}
 use native.Mathlib.Nat.{le-refl}
 use lib.ListN.{length}
 use Rattle.rules.specs.Lists.{enough}
-use Rattle.rules.specs.Words.{tag, fieldA, fieldB, elements, variables}
+use Rattle.rules.specs.Words.{tag, fieldA, fieldB, elements, variables, HA}
 use Rattle.rules.specs.Store.{Store, settle}
 use Rattle.rules.specs.Map.{toPositions}
 use Rattle.rules.specs.Walk.{walk, assign}
@@ -22,7 +22,7 @@ use Rattle.invariants.specs.Keep.{kept}
 pub start-low : (ws : List ℕ) (l : ℕ) → length (elements ws (fieldB ws l)) ≤ 16 → Low (toPositions 0 (variables ws l)) 16
 start-low ws l few = let c = variables-few ws l few in positions-low 0 16 (variables ws l) (omega arith)
 
-pub assign-grows : (R n l r : ℕ) (home : ℕ → ℕ) (s : Store) → Fine R n home s → l < s .used → tag (s .words) l ≡ 9 → Sub (s .words) home 0 (s .used) r
+pub assign-grows : (R n l r : ℕ) (home : ℕ → ℕ) (s : Store) → Fine R n home s → l < s .used → tag (s .words) l ≡ HA → Sub (s .words) home 0 (s .used) r
     → Grows (λ v. v ≡ fieldA (s .words) l) (Rooted (s .used)) R n home s (assign R l r s)
 unfolding assign settle
 assign-grows R n l r home s f lt nine sub =

@@ -9,7 +9,7 @@ use native.Mathlib.Decide.{ℕ-discrete}
 use lib.ListN.{getD, length-map}
 use borrow.Author.Tests.{eq-eqb, ne-eqb}
 use Rattle.rules.specs.Lists.{both, enough}
-use Rattle.rules.specs.Words.{NONE, tag, fieldA, fieldB, has, elements, arguments, variables}
+use Rattle.rules.specs.Words.{NONE, tag, fieldA, fieldB, has, elements, arguments, variables, HA}
 use Rattle.rules.specs.Store.{Store, goes, pushOccurrence, solved, solution}
 use Rattle.rules.specs.Map.{Map, targets, toVariables, follow}
 use Rattle.rules.specs.Rewrite.{Writer, keepHole, copy, expand}
@@ -63,7 +63,7 @@ all-mapped P g [] h = tt
 all-mapped P g (x ∷ xs) h = (h .0, all-mapped P g xs (h .1))
 
 -- the variables of an occurrence are no higher than its limit
-pub occurrence-low : (R n : ℕ) (home : ℕ → ℕ) (s : Store) (r : ℕ) → Fine R n home s → r < s .used → tag (s .words) r ≡ 9 → All (λ v. v ≤ limit r) (variables (s .words) r)
+pub occurrence-low : (R n : ℕ) (home : ℕ → ℕ) (s : Store) (r : ℕ) → Fine R n home s → r < s .used → tag (s .words) r ≡ HA → All (λ v. v ≤ limit r) (variables (s .words) r)
 unfolding variables arguments
 occurrence-low R n home s r f lt nine =
     all-mapped (λ v. v ≤ limit r) (λ x. fieldA (s .words) x) (elements (s .words) (fieldB (s .words) r))
@@ -80,12 +80,12 @@ pub expand-grows : (R n f r : ℕ) (s : Store) (home : ℕ → ℕ) → Fine R n
 unfolding expand has solved both solution
 expand-grows R n zero r s home fi sub fuel = absurd (omega arith)
 expand-grows R n (suc f) r s home fi sub fuel =
-    go (ℕ-discrete (tag (s .words) r) 9) (ℕ-discrete (getD (s .solutions) (fieldA (s .words) r) NONE) NONE) (λ y s₁ home₁. expand-grows R n f y s₁ home₁)
+    go (ℕ-discrete (tag (s .words) r) HA) (ℕ-discrete (getD (s .solutions) (fieldA (s .words) r) NONE) NONE) (λ y s₁ home₁. expand-grows R n f y s₁ home₁)
   where
     stay : Grows Nobody (Expanded s r) R n home s (goes s r)
     stay = stays Nobody (Expanded s r) R n home s r fi (record { sub = sub; less = inl (refl, refl) })
 
-    go : Dec (tag (s .words) r ≡ 9) → Dec (getD (s .solutions) (fieldA (s .words) r) NONE ≡ NONE)
+    go : Dec (tag (s .words) r ≡ HA) → Dec (getD (s .solutions) (fieldA (s .words) r) NONE ≡ NONE)
         → ((y : ℕ) (s₁ : Store) (home₁ : ℕ → ℕ) → Fine R n home₁ s₁ → Sub (s₁ .words) home₁ 0 (s₁ .used) y → R < s₁ .used + f → Grows Nobody (Expanded s₁ y) R n home₁ s₁ (expand f R y s₁))
         → Grows Nobody (Expanded s r) R n home s (expand (suc f) R r s)
     go (no t) c on = rw (expand, ne-eqb _ _ t) stay

@@ -6,7 +6,7 @@ use mathlib.Core.Logic.{_≢_}
 use mathlib.Core.Bool.{true}
 use native.Mathlib.Omega.{arith}
 use Rattle.rules.specs.Lists.{enough}
-use Rattle.rules.specs.Words.{NONE, tag}
+use Rattle.rules.specs.Words.{NONE, tag, HA}
 use Rattle.rules.specs.Answers.{records, pairs}
 use Rattle.rules.specs.Store.{Store, spent}
 use Rattle.rules.specs.Rewrite.{expand}
@@ -33,7 +33,7 @@ pub expand-ends : (R n r : ℕ) (s : Store) (home : ℕ → ℕ) → Fine R n ho
 expand-ends R n r s home f sub z = let g : Grows Nobody (Expanded s r) R n home s (expand enough R r s) = expand-grows R n enough r s home f sub (omega arith) in rw z at g
 
 -- step 5 ends, with its walk
-pub assign-ends : (R n l r : ℕ) (s : Store) (home : ℕ → ℕ) → Fine R n home s → l < s .used → tag (s .words) l ≡ 9 → Sub (s .words) home 0 (s .used) r → assign R l r s ≢ spent
+pub assign-ends : (R n l r : ℕ) (s : Store) (home : ℕ → ℕ) → Fine R n home s → l < s .used → tag (s .words) l ≡ HA → Sub (s .words) home 0 (s .used) r → assign R l r s ≢ spent
 assign-ends R n l r s home f lt nine sub z = rw z at (assign-grows R n l r home s f lt nine sub)
 
 -- every step of a run ends

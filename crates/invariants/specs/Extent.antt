@@ -4,7 +4,7 @@ use mathlib.Core.Path.{_≡_, refl, ap}
 use mathlib.Core.List.{List, [], _∷_}
 use native.Mathlib.Omega.{arith}
 use native.Mathlib.Decide.{ℕ-discrete}
-use Rattle.rules.specs.Words.{tag, fieldA, fieldB, lambda, constant, variable, hole, form, elements, arguments}
+use Rattle.rules.specs.Words.{tag, fieldA, fieldB, lambda, constant, variable, hole, form, elements, arguments, LA, CA, VA}
 use Rattle.invariants.specs.Forms.{form-6, form-7, form-8, form-9}
 use Rattle.invariants.specs.Floor.{All}
 
@@ -25,15 +25,15 @@ extent (suc f) ws r =
     ])
 
 module _ (f : ℕ) (ws : List ℕ) (r : ℕ) where
-  pub extent-lambda : tag ws r ≡ 6 → extent (suc f) ws r ≡ suc (extent f ws (fieldA ws r))
+  pub extent-lambda : tag ws r ≡ LA → extent (suc f) ws r ≡ suc (extent f ws (fieldA ws r))
   unfolding extent
   extent-lambda e = rw (form-6 ws r e, extent)
 
   pub extent-applied : 7 ≤ tag ws r → tag ws r ≤ 9 → extent (suc f) ws r ≡ suc (extents (λ x. extent f ws x) (elements ws (fieldB ws r)))
   unfolding extent arguments
-  extent-applied lo hi = go (ℕ-discrete (tag ws r) 7) (ℕ-discrete (tag ws r) 8)
+  extent-applied lo hi = go (ℕ-discrete (tag ws r) CA) (ℕ-discrete (tag ws r) VA)
     where
-      go : Dec (tag ws r ≡ 7) → Dec (tag ws r ≡ 8) → extent (suc f) ws r ≡ suc (extents (λ x. extent f ws x) (elements ws (fieldB ws r)))
+      go : Dec (tag ws r ≡ CA) → Dec (tag ws r ≡ VA) → extent (suc f) ws r ≡ suc (extents (λ x. extent f ws x) (elements ws (fieldB ws r)))
       go (yes c) v = rw (form-7 ws r c, extent)
       go (no c) (yes v) = rw (form-8 ws r v, extent)
       go (no c) (no v) = rw (form-9 ws r (omega arith), extent)

@@ -4,7 +4,7 @@ use Prim.Native.Nat.{ℕ, _+_, _-_, _*_, _<_, _≤_}
 use mathlib.Core.Path.{_≡_}
 use mathlib.Core.List.{List, [], _∷_}
 use lib.ListN.{length, getD}
-use Rattle.rules.specs.Words.{NONE, tag, fieldA, fieldB, elements}
+use Rattle.rules.specs.Words.{NONE, tag, fieldA, fieldB, elements, HO, CE, LA, HA}
 use Rattle.rules.specs.Store.{Store, Out, goes, fails, spent}
 use Rattle.rules.specs.Solve.{filled}
 use Rattle.laws.specs.Lists.{Cell}
@@ -27,13 +27,13 @@ All P (x ∷ xs) = P x × All P xs
 
 -- l is a list below r of terms whose homes are at least b
 pub record Args (ws : List ℕ) (home : ℕ → ℕ) (b r l : ℕ) : Type 0 where
-  pub here : (l ≡ NONE → ⊥) → (l < r) × (tag ws l ≡ 5)
+  pub here : (l ≡ NONE → ⊥) → (l < r) × (tag ws l ≡ CE)
   pub all : All (Sub ws home b r) (elements ws l)
 
 -- an occurrence: of a hole
 pub record Occ (ws : List ℕ) (r : ℕ) : Type 0 where
   pub below : fieldA ws r < r
-  pub hole : tag ws (fieldA ws r) ≡ 4
+  pub hole : tag ws (fieldA ws r) ≡ HO
 
 -- the first word of a term written as record r is no higher than this: a walk leads no variable higher than 2 to the 25th, and a copy leads
 -- none by more than 4,096 higher than those that it finds
@@ -43,13 +43,13 @@ limit r = 33554432 + 4096 * r
 -- record r keeps the rules, as far as the walk relies on them
 pub record Rule (ws : List ℕ) (home : ℕ → ℕ) (r : ℕ) : Type 0 where
   pub own : home r ≤ r
-  pub lam : tag ws r ≡ 6 → Sub ws home (home r) r (fieldA ws r)
+  pub lam : tag ws r ≡ LA → Sub ws home (home r) r (fieldA ws r)
   pub app : 7 ≤ tag ws r → tag ws r ≤ 9 → Args ws home (home r) r (fieldB ws r)
   pub few : 7 ≤ tag ws r → tag ws r ≤ 9 → length (elements ws (fieldB ws r)) ≤ 16
   pub low : 6 ≤ tag ws r → tag ws r ≤ 9 → fieldA ws r ≤ limit r
-  pub occ : tag ws r ≡ 9 → Occ ws r
-  pub cell : tag ws r ≡ 5 → Cell ws r
-  pub hole : tag ws r ≡ 4 → (fieldA ws r ≡ NONE → ⊥) → (fieldA ws r < r) × (tag ws (fieldA ws r) ≡ 5)
+  pub occ : tag ws r ≡ HA → Occ ws r
+  pub cell : tag ws r ≡ CE → Cell ws r
+  pub hole : tag ws r ≡ HO → (fieldA ws r ≡ NONE → ⊥) → (fieldA ws r < r) × (tag ws (fieldA ws r) ≡ CE)
 
 -- hole h is solved by a term of which all records are from n on
 pub record Solved (n : ℕ) (home : ℕ → ℕ) (s : Store) (h : ℕ) : Type 0 where
@@ -69,7 +69,7 @@ pub record Fine (R n : ℕ) (home : ℕ → ℕ) (s : Store) : Type 0 where
   pub within : s .used ≤ R
   pub good : (r : ℕ) → r < s .used → Rule (s .words) home r
   pub sols : (h : ℕ) → h < R → (getD (s .solutions) h NONE ≡ NONE → ⊥) → Solved n home s h
-  pub above : (q : ℕ) → q < s .used → tag (s .words) q ≡ 9 → 1 ≤ home q → (getD (s .solutions) (fieldA (s .words) q) NONE ≡ NONE → ⊥)
+  pub above : (q : ℕ) → q < s .used → tag (s .words) q ≡ HA → 1 ≤ home q → (getD (s .solutions) (fieldA (s .words) q) NONE ≡ NONE → ⊥)
       → q < home (getD (s .solutions) (fieldA (s .words) q) NONE)
   pub tagged : (r : ℕ) → n ≤ r → r < s .used → 1 ≤ tag (s .words) r
   pub blank : (i : ℕ) → 4 * s .used ≤ i → i < 4 * R → getD (s .words) i 0 ≡ 0
@@ -79,7 +79,7 @@ pub record Ext (barred : ℕ → Type 0) (home : ℕ → ℕ) (s : Store) (home�
   pub grown : s .used ≤ s₁ .used
   pub kept : (i : ℕ) → i < 4 * s .used → getD (s₁ .words) i 0 ≡ getD (s .words) i 0
   pub labels : (r : ℕ) → r < s .used → home₁ r ≡ home r
-  pub none : (q : ℕ) → s .used ≤ q → q < s₁ .used → tag (s₁ .words) q ≡ 9 → barred (fieldA (s₁ .words) q) → ⊥
+  pub none : (q : ℕ) → s .used ≤ q → q < s₁ .used → tag (s₁ .words) q ≡ HA → barred (fieldA (s₁ .words) q) → ⊥
 
 -- words left by a part of the machine: nothing has changed outside records n to R and past the first R solutions, so that cleared they are the same
 pub record Outside (R n : ℕ) (s : Store) (ws ss : List ℕ) : Type 0 where

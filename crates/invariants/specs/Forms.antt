@@ -3,21 +3,21 @@ use Prim.Native.Nat.{ℕ, _≤_}
 use mathlib.Core.Path.{_≡_}
 use mathlib.Core.List.{List}
 use lib.ListN.{length, length-map}
-use Rattle.rules.specs.Words.{tag, fieldB, form, has, lambda, constant, variable, hole, elements, arguments, variables}
+use Rattle.rules.specs.Words.{tag, fieldB, form, has, lambda, constant, variable, hole, elements, arguments, variables, LA, CA, VA, HA}
 
-pub form-6 : (ws : List ℕ) (r : ℕ) → tag ws r ≡ 6 → form ws r ≡ lambda
+pub form-6 : (ws : List ℕ) (r : ℕ) → tag ws r ≡ LA → form ws r ≡ lambda
 unfolding form has
 form-6 ws r e = rw (e, form)
 
-pub form-7 : (ws : List ℕ) (r : ℕ) → tag ws r ≡ 7 → form ws r ≡ constant
+pub form-7 : (ws : List ℕ) (r : ℕ) → tag ws r ≡ CA → form ws r ≡ constant
 unfolding form has
 form-7 ws r e = rw (e, form, e)
 
-pub form-8 : (ws : List ℕ) (r : ℕ) → tag ws r ≡ 8 → form ws r ≡ variable
+pub form-8 : (ws : List ℕ) (r : ℕ) → tag ws r ≡ VA → form ws r ≡ variable
 unfolding form has
 form-8 ws r e = rw (e, form, e, e)
 
-pub form-9 : (ws : List ℕ) (r : ℕ) → tag ws r ≡ 9 → form ws r ≡ hole
+pub form-9 : (ws : List ℕ) (r : ℕ) → tag ws r ≡ HA → form ws r ≡ hole
 unfolding form has
 form-9 ws r e = rw (e, form, e, e)
 

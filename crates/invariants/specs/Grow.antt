@@ -5,19 +5,19 @@ use mathlib.Core.List.{List, [], _∷_}
 use native.Mathlib.Omega.{arith}
 use native.Mathlib.Nat.{le-refl}
 use lib.ListN.{getD}
-use Rattle.rules.specs.Words.{NONE, tag, fieldA, fieldB, elements}
+use Rattle.rules.specs.Words.{NONE, tag, fieldA, fieldB, elements, CE, HA}
 use Rattle.rules.specs.Store.{Store}
 use Rattle.laws.specs.Lists.{Listed, elements-kept}
 use Rattle.invariants.specs.Floor.{Solved, Term, Sub, All, Args, Fine, Ext}
 
 -- a list of a fine store can be read
-pub listed-of : (R n : ℕ) (home : ℕ → ℕ) (s : Store) (l : ℕ) → Fine R n home s → ((l ≡ NONE → ⊥) → (l < s .used) × (tag (s .words) l ≡ 5)) → Listed (s .words) l
+pub listed-of : (R n : ℕ) (home : ℕ → ℕ) (s : Store) (l : ℕ) → Fine R n home s → ((l ≡ NONE → ⊥) → (l < s .used) × (tag (s .words) l ≡ CE)) → Listed (s .words) l
 listed-of R n home s l f h =
     let c = f .few in
     record { top = s .used; inside = omega arith; few = omega arith; good = λ c lt e. f .good c lt .cell e; here = h }
 
 -- the solution of the hole that occurs at r
-pub solved-at : (R n : ℕ) (home : ℕ → ℕ) (s : Store) (r : ℕ) → Fine R n home s → r < s .used → tag (s .words) r ≡ 9 → (getD (s .solutions) (fieldA (s .words) r) NONE ≡ NONE → ⊥)
+pub solved-at : (R n : ℕ) (home : ℕ → ℕ) (s : Store) (r : ℕ) → Fine R n home s → r < s .used → tag (s .words) r ≡ HA → (getD (s .solutions) (fieldA (s .words) r) NONE ≡ NONE → ⊥)
     → Solved n home s (fieldA (s .words) r)
 solved-at R n home s r f lt nine ne = let b = f .good r lt .occ nine .below in let w = f .within in f .sols (fieldA (s .words) r) (omega arith) ne
 
@@ -52,7 +52,7 @@ module _ (barred : ℕ → Type 0) (R n : ℕ) (home : ℕ → ℕ) (s : Store) 
       let l = e .labels x (omega arith) in
       record { below = omega arith; term = term-kept x e (omega arith) (p .term); up = omega arith }
 
-  pub list-kept : (l : ℕ) → Fine R n home s → Ext barred home s home₁ s₁ → ((l ≡ NONE → ⊥) → (l < s .used) × (tag (s .words) l ≡ 5)) → elements (s₁ .words) l ≡ elements (s .words) l
+  pub list-kept : (l : ℕ) → Fine R n home s → Ext barred home s home₁ s₁ → ((l ≡ NONE → ⊥) → (l < s .used) × (tag (s .words) l ≡ CE)) → elements (s₁ .words) l ≡ elements (s .words) l
   list-kept l f e h = elements-kept (s .words) (s₁ .words) (s .used) l (e .kept) (λ c lt five. f .good c lt .cell five) h
 
   pub args-below : (b r v l : ℕ) → Fine R n home s → Ext barred home s home₁ s₁ → r ≤ s .used → r ≤ v → Args (s .words) home b r l → Args (s₁ .words) home₁ b v l

@@ -11,7 +11,7 @@ use lib.ListN.{length, getD}
 use lib.Dec.{eqb, leb}
 use borrow.Author.Tests.{ltb-true, leb-true, eqb-true}
 use Rattle.rules.specs.Lists.{both, enough}
-use Rattle.rules.specs.Words.{NONE, tag, fieldA, fieldB, CE, has, isTerm, cells, elements}
+use Rattle.rules.specs.Words.{NONE, tag, fieldA, fieldB, CE, has, isTerm, cells, elements, LA, CA, VA}
 use Rattle.rules.specs.Records.{never, shapes, shape, fits, shaped, alike, listed, keeps}
 use Rattle.laws.specs.Tests.{false-true, both-true, either-true}
 use Rattle.laws.specs.Sound.{Sound, lambda-field, constant-head, hole-head, hole-context, constant-list, variable-list, hole-list, cell-element, cell-rest, follows-term}
@@ -35,14 +35,14 @@ unfolding isTerm
 is-term ws x e = let p = both-true _ _ e in record { low = leb-true _ _ (p .0); high = leb-true _ _ (p .1) }
 
 module _ (ws : List ℕ) (n : ℕ) (g : Sound ws n) (few : n ≤ 4096) (held : 4 * n ≤ length ws) where
-  cell-at : (c : ℕ) → c < n → tag ws c ≡ 5 → Cell ws c
+  cell-at : (c : ℕ) → c < n → tag ws c ≡ CE → Cell ws c
   cell-at c lt e = record { elem = cell-element ws n g c lt e; rest = λ ne. elim (cell-rest ws n g c lt e) [ inl z ↦ absurd (ne z) | inr z ↦ z ] }
 
-  listed-at : (l : ℕ) → ((l ≡ NONE → ⊥) → (l < n) × (tag ws l ≡ 5)) → Listed ws l
+  listed-at : (l : ℕ) → ((l ≡ NONE → ⊥) → (l < n) × (tag ws l ≡ CE)) → Listed ws l
   listed-at l h = record { top = n; inside = held; few = few; good = cell-at; here = h }
 
   -- a list of the table has at most 16 cells
-  pub few-cells : (l : ℕ) → l < n → tag ws l ≡ 5 → length (elements ws l) ≤ 16
+  pub few-cells : (l : ℕ) → l < n → tag ws l ≡ CE → length (elements ws l) ≤ 16
   unfolding keeps listed has elements
   few-cells l lt e = go (either-true _ _ (both-true _ _ (both-true _ _ (g l lt) .1) .0))
     where
@@ -52,7 +52,7 @@ module _ (ws : List ℕ) (n : ℕ) (g : Sound ws n) (few : n ≤ 4096) (held : 4
 
   -- a list of terms below r, or NONE
   abbrev Terms : ℕ → ℕ → Type 0
-  Terms r l = (l ≡ NONE → ⊥) → (l < r) × (tag ws l ≡ 5) × (isTerm ws (fieldA ws l) ≡ true)
+  Terms r l = (l ≡ NONE → ⊥) → (l < r) × (tag ws l ≡ CE) × (isTerm ws (fieldA ws l) ≡ true)
 
   rest-terms : (r l : ℕ) → r ≤ n → (l ≡ NONE → ⊥) → Terms r l → Terms l (fieldB ws l)
   rest-terms r l le ne h some =
@@ -82,7 +82,7 @@ module _ (ws : List ℕ) (n : ℕ) (g : Sound ws n) (few : n ≤ 4096) (held : 4
             ih (omega arith) hr (λ some. let q = rest some .0 in (omega arith, rest some .1, rest some .2)),
           )
 
-  variable-small : (r : ℕ) → r < n → tag ws r ≡ 8 → fieldA ws r < 4096
+  variable-small : (r : ℕ) → r < n → tag ws r ≡ VA → fieldA ws r < 4096
   unfolding keeps shaped shape shapes fits
   variable-small r lt e = ltb-true _ _ (rw (ap (λ k. getD shapes k (never, never, never) .0) e) at (both-true _ _ (both-true _ _ (g r lt) .0) .0))
 
@@ -97,17 +97,17 @@ module _ (ws : List ℕ) (n : ℕ) (g : Sound ws n) (few : n ≤ 4096) (held : 4
       )
 
   args-of : (r : ℕ) → r < n → 7 ≤ tag ws r → tag ws r ≤ 9 → Args ws (λ i. 0) 0 r (fieldB ws r) × (length (elements ws (fieldB ws r)) ≤ 16)
-  args-of r lt lo hi = args-at r lt (go (ℕ-discrete (tag ws r) 7) (ℕ-discrete (tag ws r) 8))
+  args-of r lt lo hi = args-at r lt (go (ℕ-discrete (tag ws r) CA) (ℕ-discrete (tag ws r) VA))
     where
-      go : Dec (tag ws r ≡ 7) → Dec (tag ws r ≡ 8) → (fieldB ws r ≡ NONE) ⊎ ((fieldB ws r < r) × (tag ws (fieldB ws r) ≡ CE) × (isTerm ws (fieldA ws (fieldB ws r)) ≡ true))
+      go : Dec (tag ws r ≡ CA) → Dec (tag ws r ≡ VA) → (fieldB ws r ≡ NONE) ⊎ ((fieldB ws r < r) × (tag ws (fieldB ws r) ≡ CE) × (isTerm ws (fieldA ws (fieldB ws r)) ≡ true))
       go (yes e) d = constant-list ws n g r lt e
       go (no e) (yes d) = variable-list ws n g r lt d
       go (no e) (no d) = hole-list ws n g r lt (omega arith)
 
   low-of : (r : ℕ) → r < n → 6 ≤ tag ws r → tag ws r ≤ 9 → fieldA ws r ≤ limit r
-  low-of r lt lo hi = go (ℕ-discrete (tag ws r) 6) (ℕ-discrete (tag ws r) 7) (ℕ-discrete (tag ws r) 8)
+  low-of r lt lo hi = go (ℕ-discrete (tag ws r) LA) (ℕ-discrete (tag ws r) CA) (ℕ-discrete (tag ws r) VA)
     where
-      go : Dec (tag ws r ≡ 6) → Dec (tag ws r ≡ 7) → Dec (tag ws r ≡ 8) → fieldA ws r ≤ limit r
+      go : Dec (tag ws r ≡ LA) → Dec (tag ws r ≡ CA) → Dec (tag ws r ≡ VA) → fieldA ws r ≤ limit r
       go (yes e) d c = let b = lambda-field ws n g r lt e .0 in omega arith
       go (no e) (yes d) c = let b = constant-head ws n g r lt d .0 in omega arith
       go (no e) (no d) (yes c) = let b = variable-small r lt c in omega arith

@@ -7,7 +7,7 @@ use native.Mathlib.Nat.{le-refl}
 use native.Mathlib.Decide.{ℕ-discrete}
 use lib.ListN.{length, getD, length-map}
 use borrow.Author.Tests.{eq-eqb, ne-eqb}
-use Rattle.rules.specs.Words.{NONE, tag, fieldA, fieldB, elements, variables}
+use Rattle.rules.specs.Words.{NONE, tag, fieldA, fieldB, elements, variables, HO}
 use Rattle.rules.specs.Store.{Store, Out, fail, pushOccurrence, solved, solution}
 use Rattle.rules.specs.Map.{Map, sources, targets, follow}
 use Rattle.rules.specs.Rewrite.{Writer}
@@ -39,7 +39,7 @@ module _ (R n u b : ℕ) where
   abbrev Walks : Out ℕ → (ℕ → ℕ) → Store → Type 0
   Walks o home s = Grows (λ v. v ≡ u) (Written b (suc u)) R n home s o
 
-  keep-grows : (h k : ℕ) (m : Map) (home : ℕ → ℕ) (s : Store) → Fine R n home s → b ≤ s .used → u < s .used → (h ≡ u → ⊥) → getD (s .solutions) h NONE ≡ NONE → h < s .used → tag (s .words) h ≡ 4
+  keep-grows : (h k : ℕ) (m : Map) (home : ℕ → ℕ) (s : Store) → Fine R n home s → b ≤ s .used → u < s .used → (h ≡ u → ⊥) → getD (s .solutions) h NONE ≡ NONE → h < s .used → tag (s .words) h ≡ HO
       → Followed 0 16 highest m → Walks (keepPlaced R h k m s) home s
   unfolding keepPlaced
   keep-grows h k m home s f le hu ne free lt four fo = go (ℕ-discrete (length m) k)
@@ -53,7 +53,7 @@ module _ (R n u b : ℕ) where
       ks : length (sources m) ≤ 16
       ks = simp length-map few
 
-      written : (x : ℕ) (home : ℕ → ℕ) (s : Store) → Fine R n home s → b ≤ s .used → u < s .used → (x ≡ u → ⊥) → getD (s .solutions) x NONE ≡ NONE → x < s .used → tag (s .words) x ≡ 4
+      written : (x : ℕ) (home : ℕ → ℕ) (s : Store) → Fine R n home s → b ≤ s .used → u < s .used → (x ≡ u → ⊥) → getD (s .solutions) x NONE ≡ NONE → x < s .used → tag (s .words) x ≡ HO
           → Walks (pushOccurrence R x (targets m) s) home s
       written x home s f le hu ne free lt four =
           same-off (λ v. v ≡ u) (Written b (suc u)) R n home s (pushOccurrence R x (targets m) s) (s .solutions)

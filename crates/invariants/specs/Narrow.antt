@@ -7,7 +7,7 @@ use native.Mathlib.Nat.{le-refl}
 use native.Mathlib.Decide.{decLt, ℕ-discrete}
 use lib.ListN.{length, getD, set, length-set}
 use lib.Seq.{getD-set-other, getD-set-same}
-use Rattle.rules.specs.Words.{NONE, tag, fieldA, fieldB, elements, hole, HO}
+use Rattle.rules.specs.Words.{NONE, tag, fieldA, fieldB, elements, hole, HO, CE, HA}
 use Rattle.rules.specs.Store.{Store, Out, goes, fails, spent, push, pushCells, pushOccurrence, settle}
 use Rattle.rules.specs.Walk.{narrow}
 use Rattle.laws.specs.Lists.{Cell, Listed, listed-rest, elements-none, elements-cell}
@@ -19,7 +19,7 @@ use Rattle.invariants.specs.Write.{Written, Same, Chain, push-hole, cell
 
 -- a solution written from record b on settles a hole that no record from b on mentions
 module _ (R n b : ℕ) (home : ℕ → ℕ) (s : Store) (h t : ℕ) (f : Fine R n home s) (lt : h < s .used) (nb : n ≤ b) (root : Sub (s .words) home b (s .used) t)
-    (no-one : (q : ℕ) → b ≤ q → q < s .used → tag (s .words) q ≡ 9 → fieldA (s .words) q ≡ h → ⊥) where
+    (no-one : (q : ℕ) → b ≤ q → q < s .used → tag (s .words) q ≡ HA → fieldA (s .words) q ≡ h → ⊥) where
   inside : h < length (s .solutions)
   inside = omega arith
 
@@ -36,7 +36,7 @@ module _ (R n b : ℕ) (home : ℕ → ℕ) (s : Store) (h t : ℕ) (f : Fine R 
           let o = f .sols v lv (λ q. ne (e ∙ q)) in
           record { hole = o .hole; below = rw e (o .below); term = rw e (o .term); since = rw e (o .since) }
 
-  settled-above : (q : ℕ) → q < s .used → tag (s .words) q ≡ 9 → 1 ≤ home q → (getD (set (s .solutions) h t) (fieldA (s .words) q) NONE ≡ NONE → ⊥)
+  settled-above : (q : ℕ) → q < s .used → tag (s .words) q ≡ HA → 1 ≤ home q → (getD (set (s .solutions) h t) (fieldA (s .words) q) NONE ≡ NONE → ⊥)
       → q < home (getD (set (s .solutions) h t) (fieldA (s .words) q) NONE)
   settled-above q l e one = go (ℕ-discrete (fieldA (s .words) q) h) (decLt q b)
     where
@@ -55,11 +55,11 @@ module _ (R n b : ℕ) (home : ℕ → ℕ) (s : Store) (h t : ℕ) (f : Fine R 
       record { room = f .room; held = simp length-set (f .held); few = f .few; some = f .some; since = f .since; within = f .within; good = f .good; sols = settled-sols; above = settled-above; tagged = f .tagged; blank = f .blank }
 
 -- elements of a context that can be read are records
-elements-low : (k : ℕ) (ws : List ℕ) (u l : ℕ) → Listed ws l → ((c : ℕ) → c < u → tag ws c ≡ 5 → Cell ws c) → ((l ≡ NONE → ⊥) → (l < u) × (tag ws l ≡ 5)) → l < k → All (λ y. y < u) (elements ws l)
+elements-low : (k : ℕ) (ws : List ℕ) (u l : ℕ) → Listed ws l → ((c : ℕ) → c < u → tag ws c ≡ CE → Cell ws c) → ((l ≡ NONE → ⊥) → (l < u) × (tag ws l ≡ CE)) → l < k → All (λ y. y < u) (elements ws l)
 elements-low zero ws u l li good here lt = absurd (omega arith)
 elements-low (suc k) ws u l li good here lt = go (ℕ-discrete l NONE) (ℕ-discrete (fieldB ws l) NONE) (λ p q g. elements-low k ws u (fieldB ws l) p good q g)
   where
-    go : Dec (l ≡ NONE) → Dec (fieldB ws l ≡ NONE) → (Listed ws (fieldB ws l) → ((fieldB ws l ≡ NONE → ⊥) → (fieldB ws l < u) × (tag ws (fieldB ws l) ≡ 5)) → fieldB ws l < k → All (λ y. y < u) (elements ws (fieldB ws l))) → All (λ y. y < u) (elements ws l)
+    go : Dec (l ≡ NONE) → Dec (fieldB ws l ≡ NONE) → (Listed ws (fieldB ws l) → ((fieldB ws l ≡ NONE → ⊥) → (fieldB ws l < u) × (tag ws (fieldB ws l) ≡ CE)) → fieldB ws l < k → All (λ y. y < u) (elements ws (fieldB ws l))) → All (λ y. y < u) (elements ws l)
     go (yes e) d ih = rw (elements-none ws l e) tt
     go (no e) (yes d) ih =
         let q = here e in
@@ -96,14 +96,14 @@ grows-weaken barred barred′ Q R n home s spent w g = g
 pub record Fresh (u : ℕ) (home : ℕ → ℕ) (s : Store) (x : ℕ) : Type 0 where
   pub new : u ≤ x
   pub below : x < s .used
-  pub hole : tag (s .words) x ≡ 4
+  pub hole : tag (s .words) x ≡ HO
   pub free : getD (s .solutions) x NONE ≡ NONE
 
-context-low : (R n : ℕ) (home : ℕ → ℕ) (s : Store) (l : ℕ) → Fine R n home s → ((l ≡ NONE → ⊥) → (l < s .used) × (tag (s .words) l ≡ 5)) → All (λ y. y < s .used) (elements (s .words) l)
+context-low : (R n : ℕ) (home : ℕ → ℕ) (s : Store) (l : ℕ) → Fine R n home s → ((l ≡ NONE → ⊥) → (l < s .used) × (tag (s .words) l ≡ CE)) → All (λ y. y < s .used) (elements (s .words) l)
 context-low R n home s l f h = elements-low (suc l) (s .words) (s .used) l (listed-of R n home s l f h) (λ c lt e. f .good c lt .cell e) h (omega arith)
 
 settles : (R n : ℕ) (home : ℕ → ℕ) (s : Store) (h t x b : ℕ) → Fine R n home s → h < s .used → b ≤ s .used → n ≤ b → Sub (s .words) home b (s .used) t
-    → ((q : ℕ) → b ≤ q → q < s .used → tag (s .words) q ≡ 9 → fieldA (s .words) q ≡ h → ⊥) → (h ≡ x → ⊥) → b ≤ x → x < s .used → tag (s .words) x ≡ 4 → getD (s .solutions) x NONE ≡ NONE
+    → ((q : ℕ) → b ≤ q → q < s .used → tag (s .words) q ≡ HA → fieldA (s .words) q ≡ h → ⊥) → (h ≡ x → ⊥) → b ≤ x → x < s .used → tag (s .words) x ≡ HO → getD (s .solutions) x NONE ≡ NONE
     → Grown (λ v. v < b) (Fresh b) R n home s (settle h t s) x
 unfolding settle
 settles R n home s h t x b f lt le nb root no-one ne bx xu four free =
@@ -115,19 +115,19 @@ settles R n home s h t x b f lt le nb root no-one ne bx xu four free =
       root = record { new = bx; below = xu; hole = four; free = getD-set-other (s .solutions) h x t NONE (λ z. ne (sym z)) ∙ free };
     }
 
-pub narrow-grows : (barred : ℕ → Type 0) (R n h : ℕ) (ks : List ℕ) (home : ℕ → ℕ) (s : Store) → Fine R n home s → ((v : ℕ) → barred v → v < s .used) → h < s .used → tag (s .words) h ≡ 4
+pub narrow-grows : (barred : ℕ → Type 0) (R n h : ℕ) (ks : List ℕ) (home : ℕ → ℕ) (s : Store) → Fine R n home s → ((v : ℕ) → barred v → v < s .used) → h < s .used → tag (s .words) h ≡ HO
     → length ks ≤ 16 → All (λ k. k ≤ limit (s .used)) ks → Grows barred (Fresh (s .used)) R n home s (narrow R h ks s)
 unfolding narrow
 narrow-grows barred R n h ks home s f old lt four few low =
     let si = f .since in
-    let ctx : (fieldA (s .words) h ≡ NONE → ⊥) → (fieldA (s .words) h < s .used) × (tag (s .words) (fieldA (s .words) h) ≡ 5) =
+    let ctx : (fieldA (s .words) h ≡ NONE → ⊥) → (fieldA (s .words) h < s .used) × (tag (s .words) (fieldA (s .words) h) ≡ CE) =
     λ q. let g = f .good h lt .hole four q in (omega arith, g .1) in
     let els = context-low R n home s (fieldA (s .words) h) f ctx in
     grows-weaken barred (λ v. v < s .used) (Fresh (s .used)) R n home s (narrow R h ks s) old
     (bind-grows (λ v. v < s .used) (Same (s .solutions) Chain) (Fresh (s .used)) R n home s (pushCells R (map (λ k. getD (elements (s .words) (fieldA (s .words) h)) k 0) ks) s) _
     (cells-grow (λ v. v < s .used) R n (map (λ k. getD (elements (s .words) (fieldA (s .words) h)) k 0) ks) home s f (pick-low (s .used) (elements (s .words) (fieldA (s .words) h)) ks (omega arith) els))
     λ home₁ s₁ x₁ e₁ f₁ p₁.
-    bind-grows (λ v. v < s .used) (Same (s₁ .solutions) (λ home₂ s₂ x. (x ≡ s₁ .used) × (x < s₂ .used) × (tag (s₂ .words) x ≡ 4))) (Fresh (s .used)) R n home₁ s₁ (push R HO x₁ (fieldB (s .words) h) s₁) _
+    bind-grows (λ v. v < s .used) (Same (s₁ .solutions) (λ home₂ s₂ x. (x ≡ s₁ .used) × (x < s₂ .used) × (tag (s₂ .words) x ≡ HO))) (Fresh (s .used)) R n home₁ s₁ (push R HO x₁ (fieldB (s .words) h) s₁) _
     (push-hole (λ v. v < s .used) R n 0 home₁ s₁ f₁ (omega arith) x₁ (fieldB (s .words) h) (p₁ .0))
     λ home₂ s₂ x₂ e₂ f₂ p₂.
     let n₁ = p₂ .0 .1 in

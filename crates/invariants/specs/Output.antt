@@ -7,7 +7,7 @@ use native.Mathlib.Nat.{le-refl}
 use native.Mathlib.Decide.{decLt, ℕ-discrete}
 use lib.ListN.{length}
 use borrow.Author.Tests.{lt-ltb, le-ltb}
-use Rattle.rules.specs.Words.{NONE, tag, fieldA, fieldB, elements, VA, HA}
+use Rattle.rules.specs.Words.{NONE, tag, fieldA, fieldB, elements, VA, HA, CE, LA}
 use Rattle.rules.specs.Store.{Store, Out, goes, fails, spent, fail, _>>=_, put, push, pushVariables, pushOccurrence}
 use Rattle.laws.specs.Lists.{Cell, Listed, elements-none, elements-cell, elements-kept}
 use Rattle.invariants.specs.Floor.{Sub, All, Args, Ext}
@@ -22,10 +22,10 @@ plain i = 0
 
 -- output record r
 pub record Line (ws : List ℕ) (r : ℕ) : Type 0 where
-  pub lam : tag ws r ≡ 6 → Sub ws plain 0 r (fieldA ws r)
+  pub lam : tag ws r ≡ LA → Sub ws plain 0 r (fieldA ws r)
   pub app : 7 ≤ tag ws r → tag ws r ≤ 9 → Args ws plain 0 r (fieldB ws r)
-  pub cell : tag ws r ≡ 5 → Cell ws r
-  pub item : tag ws r ≡ 5 → Sub ws plain 0 r (fieldA ws r)
+  pub cell : tag ws r ≡ CE → Cell ws r
+  pub item : tag ws r ≡ CE → Sub ws plain 0 r (fieldA ws r)
 
 -- an output of O records
 pub record Outputs (O : ℕ) (s : Store) : Type 0 where
@@ -106,7 +106,7 @@ line-stays O s s₁ r o e h =
 extent-stays : (O : ℕ) (s s₁ : Store) → Outputs O s → Ext Nobody plain s plain s₁ → (f x : ℕ) → ATerm s x → extent f (s₁ .words) x ≡ extent f (s .words) x
 unfolding extent
 extent-stays O s s₁ o e zero x p = refl
-extent-stays O s s₁ o e (suc f) x p = go (λ y q. extent-stays O s s₁ o e f y q) (ℕ-discrete (tag (s .words) x) 6)
+extent-stays O s s₁ o e (suc f) x p = go (λ y q. extent-stays O s s₁ o e f y q) (ℕ-discrete (tag (s .words) x) LA)
   where
     low : x < s .used
     low = p .below
@@ -117,7 +117,7 @@ extent-stays O s s₁ o e (suc f) x p = go (λ y q. extent-stays O s s₁ o e f 
     lower : (y : ℕ) → Sub (s .words) plain 0 x y → ATerm s y
     lower y q = sub-less (s .words) plain 0 0 x (s .used) y q (le-refl _) (omega arith)
 
-    go : ((y : ℕ) → ATerm s y → extent f (s₁ .words) y ≡ extent f (s .words) y) → Dec (tag (s .words) x ≡ 6) → extent (suc f) (s₁ .words) x ≡ extent (suc f) (s .words) x
+    go : ((y : ℕ) → ATerm s y → extent f (s₁ .words) y ≡ extent f (s .words) y) → Dec (tag (s .words) x ≡ LA) → extent (suc f) (s₁ .words) x ≡ extent (suc f) (s .words) x
     go part (yes t) =
         rw (extent-lambda f (s₁ .words) x (same ∙ t), extent-lambda f (s .words) x t, a-kept Nobody 0 0 plain s plain s₁ x e low)
         (ap suc (part (fieldA (s .words) x) (lower _ (o .good x low .lam t))))
@@ -225,7 +225,7 @@ module _ (O : ℕ) (ss : List ℕ) (s : Store) (o : Outputs O s) (sols : s .solu
       λ l all.
       let e = put-tag (s .words) (s .used) 5 a c l in
       let real : s .used ≡ NONE → ⊥ = omega arith in
-      let here : (s .used ≡ NONE → ⊥) → (s .used < s .used + 1) × (tag (more 5 a c .words) (s .used) ≡ 5) = λ ne. (omega arith, e) in
+      let here : (s .used ≡ NONE → ⊥) → (s .used < s .used + 1) × (tag (more 5 a c .words) (s .used) ≡ CE) = λ ne. (omega arith, e) in
       let li : Listed (more 5 a c .words) (s .used) = record { top = s .used + 1; inside = omega arith; few = omega arith; good = λ x lt five. all .good x lt .cell five; here = here } in
       let el : elements (more 5 a c .words) (s .used) ≡ a ∷ elements (more 5 a c .words) c = elements-cell (more 5 a c .words) (s .used) real li ∙ rw (put-a (s .words) (s .used) 5 a c l, put-b (s .words) (s .used) 5 a c l) in
       let tail = args-stay O s (more 5 a c) (s .used) (s .used + 1) c o (more-ext 5 a c) (le-refl _) (omega arith) q in

@@ -9,7 +9,7 @@ use native.Mathlib.Decide.{decLt, ℕ-discrete}
 use lib.Dec.{ltb}
 use borrow.Author.Tests.{lt-ltb, le-ltb}
 use Rattle.rules.specs.Lists.{enough}
-use Rattle.rules.specs.Words.{tag, fieldA, fieldB, elements, arguments}
+use Rattle.rules.specs.Words.{tag, fieldA, fieldB, elements, arguments, LA, CA, VA}
 use Rattle.rules.specs.Store.{Store}
 use Rattle.rules.specs.Text.{Bytes, digits, decimal, printTerm, printed}
 use Rattle.invariants.specs.Forms.{form-6, form-7, form-8, form-9}
@@ -50,7 +50,7 @@ module _ (O : ℕ) (s : Store) (o : Outputs O s) where
   -- one level: printers that agree on lower terms print the same
   level-same : (f g : ℕ → Bytes) (r : ℕ) → ATerm s r → ((x : ℕ) → x < r → ATerm s x → f x ≡ g x) → printTerm f (s .words) r ≡ printTerm g (s .words) r
   unfolding printTerm arguments
-  level-same f g r p h = go (ℕ-discrete (tag (s .words) r) 6) (ℕ-discrete (tag (s .words) r) 7) (ℕ-discrete (tag (s .words) r) 8)
+  level-same f g r p h = go (ℕ-discrete (tag (s .words) r) LA) (ℕ-discrete (tag (s .words) r) CA) (ℕ-discrete (tag (s .words) r) VA)
     where
       line : Line (s .words) r
       line = o .good r (p .below)
@@ -61,7 +61,7 @@ module _ (O : ℕ) (s : Store) (o : Outputs O s) where
       args : 7 ≤ tag (s .words) r → map f (elements (s .words) (fieldB (s .words) r)) ≡ map g (elements (s .words) (fieldB (s .words) r))
       args lo = map-same f g (elements (s .words) (fieldB (s .words) r)) (all-map (Sub (s .words) plain 0 r) (λ x. f x ≡ g x) lower (elements (s .words) (fieldB (s .words) r)) (line .app lo (p .term .high) .all))
 
-      go : Dec (tag (s .words) r ≡ 6) → Dec (tag (s .words) r ≡ 7) → Dec (tag (s .words) r ≡ 8) → printTerm f (s .words) r ≡ printTerm g (s .words) r
+      go : Dec (tag (s .words) r ≡ LA) → Dec (tag (s .words) r ≡ CA) → Dec (tag (s .words) r ≡ VA) → printTerm f (s .words) r ≡ printTerm g (s .words) r
       go (yes t) c e = rw (printTerm, form-6 _ _ t, lower (fieldA (s .words) r) (line .lam t))
       go (no t) (yes c) e = rw (printTerm, form-7 _ _ c, args (omega arith))
       go (no t) (no c) (yes e) = rw (printTerm, form-8 _ _ e, args (omega arith))

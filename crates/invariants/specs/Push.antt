@@ -10,7 +10,7 @@ use lib.ListN.{length, getD, set, length-set}
 use lib.Seq.{getD-set-other, getD-set-same}
 use lib.Dec.{eqb}
 use borrow.Author.Tests.{lt-ltb, le-ltb, eq-eqb, ne-eqb}
-use Rattle.rules.specs.Words.{NONE, tag, fieldA, fieldB, elements}
+use Rattle.rules.specs.Words.{NONE, tag, fieldA, fieldB, elements, HO, CE, HA}
 use Rattle.rules.specs.Store.{Store, Out, goes, fails, spent, fail, _>>=_, put, push}
 use Rattle.invariants.specs.Floor.{Sub, Args, limit, Rule, Solved, Fine, Ext, Grows}
 use Rattle.invariants.specs.Outside.{outside-trans, put-outside, fine-stopped, stopped-after}
@@ -109,9 +109,9 @@ pub record Pushed (t a c b u : ℕ) (ss : List ℕ) (home₁ : ℕ → ℕ) (s�
 pub new-rule : (t a c b u : ℕ) (ss : List ℕ) (home₁ : ℕ → ℕ) (s₁ : Store) → Pushed t a c b u ss home₁ s₁ u → b ≤ u
     → (6 ≤ t → t ≤ 9 → a ≤ limit u) → (t ≡ 6 → Sub (s₁ .words) home₁ b u a)
     → (7 ≤ t → t ≤ 9 → Args (s₁ .words) home₁ b u c × (length (elements (s₁ .words) c) ≤ 16))
-    → (t ≡ 9 → (a < u) × (tag (s₁ .words) a ≡ 4))
-    → (t ≡ 5 → (a < u) × ((c ≡ NONE → ⊥) → (c < u) × (tag (s₁ .words) c ≡ 5)))
-    → (t ≡ 4 → (a ≡ NONE → ⊥) → (a < u) × (tag (s₁ .words) a ≡ 5)) → Rule (s₁ .words) home₁ u
+    → (t ≡ 9 → (a < u) × (tag (s₁ .words) a ≡ HO))
+    → (t ≡ 5 → (a < u) × ((c ≡ NONE → ⊥) → (c < u) × (tag (s₁ .words) c ≡ CE)))
+    → (t ≡ 4 → (a ≡ NONE → ⊥) → (a < u) × (tag (s₁ .words) a ≡ CE)) → Rule (s₁ .words) home₁ u
 new-rule t a c b u ss home₁ s₁ p le low h₆ h₇ h₉ h₅ h₄ =
     let l = p .label in
     let ti = p .tag-is in
@@ -140,7 +140,7 @@ module _ (barred : ℕ → Type 0) (R n t a c b : ℕ) (home : ℕ → ℕ) (s :
   pushed : Pushed t a c b (s .used) (s .solutions) (labelled home s b) (added s t a c) (s .used)
   pushed = record { is = refl; next = omega arith; sols = refl; label = upd-new home (s .used) b; tag-is = put-tag _ _ _ _ _ long; a-is = put-a _ _ _ _ _ long; b-is = put-b _ _ _ _ _ long }
 
-  none-new : (q : ℕ) → q ≡ s .used → tag (added s t a c .words) q ≡ 9 → barred (fieldA (added s t a c .words) q) → ⊥
+  none-new : (q : ℕ) → q ≡ s .used → tag (added s t a c .words) q ≡ HA → barred (fieldA (added s t a c .words) q) → ⊥
   none-new q z = rw z (λ e k. bar (sym (put-tag (s .words) (s .used) t a c long) ∙ e) (subst barred (put-a (s .words) (s .used) t a c long) k))
 
   pushed-ext : Ext barred home s (labelled home s b) (added s t a c)
@@ -162,11 +162,11 @@ module _ (barred : ℕ → Type 0) (R n t a c b : ℕ) (home : ℕ → ℕ) (s :
       let si = o .since in
       record { hole = omega arith; below = omega arith; term = term-kept barred R n home s (labelled home s b) (added s t a c) _ pushed-ext b₀ (o .term); since = omega arith }
 
-  above-new : (t ≡ 9 → 1 ≤ b → getD (s .solutions) a NONE ≡ NONE) → (q : ℕ) → q < s .used + 1 → tag (added s t a c .words) q ≡ 9 → 1 ≤ labelled home s b q
+  above-new : (t ≡ 9 → 1 ≤ b → getD (s .solutions) a NONE ≡ NONE) → (q : ℕ) → q < s .used + 1 → tag (added s t a c .words) q ≡ HA → 1 ≤ labelled home s b q
       → (getD (s .solutions) (fieldA (added s t a c .words) q) NONE ≡ NONE → ⊥) → q < labelled home s b (getD (s .solutions) (fieldA (added s t a c .words) q) NONE)
   above-new free q k = dec (decLt q (s .used))
     where
-      dec : Dec (q < s .used) → tag (added s t a c .words) q ≡ 9 → 1 ≤ labelled home s b q → (getD (s .solutions) (fieldA (added s t a c .words) q) NONE ≡ NONE → ⊥)
+      dec : Dec (q < s .used) → tag (added s t a c .words) q ≡ HA → 1 ≤ labelled home s b q → (getD (s .solutions) (fieldA (added s t a c .words) q) NONE ≡ NONE → ⊥)
           → q < labelled home s b (getD (s .solutions) (fieldA (added s t a c .words) q) NONE)
       dec (yes l) = λ e.
           rw (a-kept barred R n home s (labelled home s b) (added s t a c) q pushed-ext l) λ one ne.
@@ -232,7 +232,7 @@ ext-trans barred home s home₁ s₁ home₂ s₂ e g =
       none = λ q l k. old q l k (decLt q (s₁ .used));
     }
   where
-    old : (q : ℕ) → s .used ≤ q → q < s₂ .used → Dec (q < s₁ .used) → tag (s₂ .words) q ≡ 9 → barred (fieldA (s₂ .words) q) → ⊥
+    old : (q : ℕ) → s .used ≤ q → q < s₂ .used → Dec (q < s₁ .used) → tag (s₂ .words) q ≡ HA → barred (fieldA (s₂ .words) q) → ⊥
     old q l k (yes h) = λ t x. e .none q l h (sym (g .kept (4 * q) (omega arith)) ∙ t) (subst barred (g .kept (4 * q + 1) (omega arith)) x)
     old q l k (no h) = g .none q (omega arith) k
 

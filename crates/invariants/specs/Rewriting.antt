@@ -8,7 +8,7 @@ use native.Mathlib.Decide.{ℕ-discrete}
 use lib.ListN.{length}
 use Rattle.rules.specs.declared.Found.{Found}
 use Rattle.rules.specs.declared.Found.the-variants.{At, Nowhere}
-use Rattle.rules.specs.Words.{NONE, tag, fieldA, fieldB, elements, arguments, CE, LA, CA, VA}
+use Rattle.rules.specs.Words.{NONE, tag, fieldA, fieldB, elements, arguments, CE, LA, CA, VA, HA}
 use Rattle.rules.specs.Store.{Store, fail, _>>=_, push}
 use Rattle.rules.specs.Map.{Map, placeOf}
 use Rattle.rules.specs.Rewrite.{Writer, writeAll, writeTerm}
@@ -41,7 +41,7 @@ module _ (barred : ℕ → Type 0) (R n b lo most : ℕ) (Left : ℕ → ℕ →
   -- the same at hole occurrences
   abbrev pub KeepsHole : ℕ → Writer → Type 0
   KeepsHole f w =
-      (m : Map) (d r : ℕ) (s : Store) (home : ℕ → ℕ) (k : ℕ) → k ≤ suc f → Ready m d r s home k → tag (s .words) r ≡ 9 → Grows barred (Written b lo) R n home s (w m d r s)
+      (m : Map) (d r : ℕ) (s : Store) (home : ℕ → ℕ) (k : ℕ) → k ≤ suc f → Ready m d r s home k → tag (s .words) r ≡ HA → Grows barred (Written b lo) R n home s (w m d r s)
 
   -- a part: fewer calls are left there
   pub record Part (k : ℕ) (s : Store) (home : ℕ → ℕ) (x : ℕ) : Type 0 where
@@ -103,7 +103,7 @@ module _ (barred : ℕ → Type 0) (R n b lo most : ℕ) (Left : ℕ → ℕ →
     pub term-grows : (m : Map) (d r : ℕ) (s : Store) (home : ℕ → ℕ) (k : ℕ) → k ≤ suc f → Ready m d r s home k → Grows barred (Written b lo) R n home s (writeTerm onHole w R (s .words) m d r s)
     unfolding writeTerm arguments fail
     term-grows m d r s home k fuel h =
-        go (ℕ-discrete (tag (s .words) r) 6) (ℕ-discrete (tag (s .words) r) 7) (ℕ-discrete (tag (s .words) r) 8) (placeOf m d (fieldA (s .words) r)) refl
+        go (ℕ-discrete (tag (s .words) r) LA) (ℕ-discrete (tag (s .words) r) CA) (ℕ-discrete (tag (s .words) r) VA) (placeOf m d (fieldA (s .words) r)) refl
       where
         rule : Rule (s .words) home r
         rule = h .fine .good r (h .sub .below)
@@ -122,7 +122,7 @@ module _ (barred : ℕ → Type 0) (R n b lo most : ℕ) (Left : ℕ → ℕ →
         headed t a lt al ht th =
             head-grows stays-left f w keeps m d (h .top) k (h .low) (h .fits) fuel t a (elements (s .words) (fieldB (s .words) r)) s home (h .fine) (h .from) (h .since) (args lt) (rule .few lt (h .sub .term .high)) al ht th
 
-        go : Dec (tag (s .words) r ≡ 6) → Dec (tag (s .words) r ≡ 7) → Dec (tag (s .words) r ≡ 8) → (p : Found) → placeOf m d (fieldA (s .words) r) ≡ p
+        go : Dec (tag (s .words) r ≡ LA) → Dec (tag (s .words) r ≡ CA) → Dec (tag (s .words) r ≡ VA) → (p : Found) → placeOf m d (fieldA (s .words) r) ≡ p
             → Grows barred (Written b lo) R n home s (writeTerm onHole w R (s .words) m d r s)
         go (yes t) c e p q =
             let x = part (fieldA (s .words) r) (rule .lam t) in
@@ -144,5 +144,5 @@ module _ (barred : ℕ → Type 0) (R n b lo most : ℕ) (Left : ℕ → ℕ →
         go (no t) (no c) (no e) p q =
             let l = h .sub .term .low in
             let hi = h .sub .term .high in
-            let z : tag (s .words) r ≡ 9 = omega arith in
+            let z : tag (s .words) r ≡ HA = omega arith in
             rw (form-9 _ _ z, writeTerm) (at m d r s home k fuel h z)

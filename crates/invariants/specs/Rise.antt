@@ -7,7 +7,7 @@ use native.Mathlib.Decide.{ℕ-discrete}
 use lib.ListN.{getD}
 use lib.Dec.{eqb}
 use borrow.Author.Tests.{eq-eqb, ne-eqb}
-use Rattle.rules.specs.Words.{NONE, tag, fieldA}
+use Rattle.rules.specs.Words.{NONE, tag, fieldA, HA}
 use Rattle.rules.specs.Store.{Store}
 use Rattle.invariants.specs.Floor.{Sub, Fine}
 use Rattle.invariants.specs.Grow.{solved-at}
@@ -33,7 +33,7 @@ pub record Rises (R : ℕ) (home : ℕ → ℕ) (s : Store) (F q G t : ℕ) : Ty
   pub sub : Sub (s .words) home G (s .used) t
   pub falls : reach R G (suc t) < reach R F q
 
-pub rises : (R n : ℕ) (home : ℕ → ℕ) (s : Store) (F q : ℕ) → Fine R n home s → q < s .used → tag (s .words) q ≡ 9 → F ≤ home q
+pub rises : (R n : ℕ) (home : ℕ → ℕ) (s : Store) (F q : ℕ) → Fine R n home s → q < s .used → tag (s .words) q ≡ HA → F ≤ home q
     → (getD (s .solutions) (fieldA (s .words) q) NONE ≡ NONE → ⊥) → Rises R home s F q (raised n F q) (getD (s .solutions) (fieldA (s .words) q) NONE)
 rises R n home s F q f lt nine le ne = go (ℕ-discrete F 0)
   where

@@ -10,7 +10,7 @@ use borrow.Author.Tests.{eq-eqb, ne-eqb}
 use Rattle.rules.specs.declared.Found.{Found}
 use Rattle.rules.specs.declared.Found.the-variants.{At, Nowhere}
 use Rattle.rules.specs.Lists.{enough}
-use Rattle.rules.specs.Words.{NONE, tag, fieldA, fieldB, elements, arguments, variables, CA, VA}
+use Rattle.rules.specs.Words.{NONE, tag, fieldA, fieldB, elements, arguments, variables, CA, VA, LA, HA}
 use Rattle.rules.specs.Store.{Store, fail, _>>=_, push, solved, solution}
 use Rattle.rules.specs.Map.{Map, targets, placeOf, follow}
 use Rattle.rules.specs.Rewrite.{Writer, writeAll, writeTerm}
@@ -59,7 +59,7 @@ module _ (R n O : ℕ) (home : ℕ → ℕ) (t : Store) (fine : Fine R n home t)
   term-writes : (f F : ℕ) (w : Writer) → Shows f w → (m : Map) (d r : ℕ) (s : Store) → Outputs O s → s .solutions ≡ t .solutions → Sub (t .words) home F (t .used) r → reach R F (suc r) ≤ suc f
       → Writes O (t .solutions) (ARoot (s .used)) s (writeTerm (expandHole w O (t .words)) w O (t .words) m d r s)
   unfolding writeTerm arguments fail expandHole
-  term-writes f F w shows m d r s o e sub fuel = go (ℕ-discrete (tag (t .words) r) 6) (ℕ-discrete (tag (t .words) r) 7) (ℕ-discrete (tag (t .words) r) 8) (placeOf m d (fieldA (t .words) r)) refl
+  term-writes f F w shows m d r s o e sub fuel = go (ℕ-discrete (tag (t .words) r) LA) (ℕ-discrete (tag (t .words) r) CA) (ℕ-discrete (tag (t .words) r) VA) (placeOf m d (fieldA (t .words) r)) refl
     where
       rule : Rule (t .words) home r
       rule = fine .good r (sub .below)
@@ -72,7 +72,7 @@ module _ (R n O : ℕ) (home : ℕ → ℕ) (t : Store) (fine : Fine R n home t)
           (all-map (Sub (t .words) home (home r) r) (Sub (t .words) home F r) (λ x p. sub-less (t .words) home (home r) F r r x p up (le-refl _)) (elements (t .words) (fieldB (t .words) r)) (rule .app lo (sub .term .high) .all)))
           λ s₁ x e₁ o₁ h₁ p₁. push-applied O (t .solutions) s₁ o₁ h₁ (s .used) k a x lk kh p₁
 
-      go : Dec (tag (t .words) r ≡ 6) → Dec (tag (t .words) r ≡ 7) → Dec (tag (t .words) r ≡ 8) → (p : Found) → placeOf m d (fieldA (t .words) r) ≡ p
+      go : Dec (tag (t .words) r ≡ LA) → Dec (tag (t .words) r ≡ CA) → Dec (tag (t .words) r ≡ VA) → (p : Found) → placeOf m d (fieldA (t .words) r) ≡ p
           → Writes O (t .solutions) (ARoot (s .used)) s (writeTerm (expandHole w O (t .words)) w O (t .words) m d r s)
       go (yes i) c j p q =
           let b = rule .lam i in
@@ -84,7 +84,7 @@ module _ (R n O : ℕ) (home : ℕ → ℕ) (t : Store) (fine : Fine R n home t)
       go (no i) (no c) (yes j) Nowhere q = rw (form-8 _ _ j, writeTerm, q) tt
       go (no i) (no c) (yes j) (At v) q = rw (form-8 _ _ j, writeTerm, q) (headed VA v (omega arith) (omega arith) (omega arith))
       go (no i) (no c) (no j) p q =
-          let z : tag (t .words) r ≡ 9 = omega arith in
+          let z : tag (t .words) r ≡ HA = omega arith in
           rw (form-9 _ _ z, writeTerm)
           (hole-writes f w shows (fieldA (t .words) r) (follow m d 0 (variables (t .words) r)) s o e (λ ne.
           let ri = rises R n home t F r fine (sub .below) z (sub .up) ne in

@@ -5,7 +5,7 @@ use mathlib.Core.List.{List, [], _∷_}
 use native.Mathlib.Omega.{arith}
 use native.Mathlib.Nat.{le-refl}
 use lib.ListN.{length, getD}
-use Rattle.rules.specs.Words.{NONE, tag, fieldA, fieldB, elements, CE, VA, HA}
+use Rattle.rules.specs.Words.{NONE, tag, fieldA, fieldB, elements, CE, VA, HA, HO}
 use Rattle.rules.specs.Store.{Store, Out, goes, push, pushCells, pushVariables, pushOccurrence}
 use Rattle.laws.specs.Lists.{elements-none, elements-cell}
 use Rattle.invariants.specs.Floor.{Sub, All, Args, limit, Rule, Fine, Ext, Grows}
@@ -61,7 +61,7 @@ module _ (barred : ℕ → Type 0) (R n b : ℕ) (home : ℕ → ℕ) (s : Store
       (λ home₁ s₁ e f₁ p.
       ((record { sub = record { below = omega arith; term = record { low = omega arith; high = omega arith }; up = omega arith }; new = le-refl _ }), p .sols))
 
-  pub push-occ : (a c : ℕ) → (barred a → ⊥) → (1 ≤ b → getD (s .solutions) a NONE ≡ NONE) → a < s .used → tag (s .words) a ≡ 4 → Args (s .words) home b (s .used) c → length (elements (s .words) c) ≤ 16
+  pub push-occ : (a c : ℕ) → (barred a → ⊥) → (1 ≤ b → getD (s .solutions) a NONE ≡ NONE) → a < s .used → tag (s .words) a ≡ HO → Args (s .words) home b (s .used) c → length (elements (s .words) c) ≤ 16
       → Grows barred (Same (s .solutions) (Written b (s .used))) R n home s (push R 9 a c s)
   push-occ a c bar free lt four g few =
       pushing (Same (s .solutions) (Written b (s .used))) 9 a c (omega arith) (λ z. bar) (λ z o. free o)
@@ -79,7 +79,7 @@ module _ (barred : ℕ → Type 0) (R n b : ℕ) (home : ℕ → ℕ) (s : Store
       (λ z. (g .below, λ q. let h = l .args .here q in let h₀ = h .0 in (h₀, tag-kept barred R n home s home₁ s₁ c e h₀ ∙ h .1))) (λ z. absurd (omega arith)))
       (λ home₁ s₁ e f₁ p.
       let real : s .used ≡ NONE → ⊥ = omega arith in
-      let here : (s .used ≡ NONE → ⊥) → (s .used < s₁ .used) × (tag (s₁ .words) (s .used) ≡ 5) = λ q. (omega arith, p .tag-is) in
+      let here : (s .used ≡ NONE → ⊥) → (s .used < s₁ .used) × (tag (s₁ .words) (s .used) ≡ CE) = λ q. (omega arith, p .tag-is) in
       let el : elements (s₁ .words) (s .used) ≡ fieldA (s₁ .words) (s .used) ∷ elements (s₁ .words) (fieldB (s₁ .words) (s .used)) = elements-cell (s₁ .words) (s .used) real (listed-of R n home₁ s₁ (s .used) f₁ here) in
       let kc = list-kept barred R n home s home₁ s₁ c f e (l .args .here) in
       let el₁ : elements (s₁ .words) (s .used) ≡ a ∷ elements (s .words) c = el ∙ rw (p .a-is, p .b-is, kc) in
@@ -94,19 +94,19 @@ module _ (barred : ℕ → Type 0) (R n b : ℕ) (home : ℕ → ℕ) (s : Store
       ))
 
   -- cells of a context
-  pub push-context : (a c : ℕ) → a < s .used → ((c ≡ NONE → ⊥) → (c < s .used) × (tag (s .words) c ≡ 5))
-      → Grows barred (Same (s .solutions) (λ home₁ s₁ x. (x ≡ NONE → ⊥) → (x < s₁ .used) × (tag (s₁ .words) x ≡ 5))) R n home s (push R 5 a c s)
+  pub push-context : (a c : ℕ) → a < s .used → ((c ≡ NONE → ⊥) → (c < s .used) × (tag (s .words) c ≡ CE))
+      → Grows barred (Same (s .solutions) (λ home₁ s₁ x. (x ≡ NONE → ⊥) → (x < s₁ .used) × (tag (s₁ .words) x ≡ CE))) R n home s (push R 5 a c s)
   push-context a c g l =
-      pushing (Same (s .solutions) (λ home₁ s₁ x. (x ≡ NONE → ⊥) → (x < s₁ .used) × (tag (s₁ .words) x ≡ 5))) 5 a c (omega arith) (λ z. absurd (omega arith)) (λ z o. absurd (omega arith))
+      pushing (Same (s .solutions) (λ home₁ s₁ x. (x ≡ NONE → ⊥) → (x < s₁ .used) × (tag (s₁ .words) x ≡ CE))) 5 a c (omega arith) (λ z. absurd (omega arith)) (λ z o. absurd (omega arith))
       (λ home₁ s₁ e p. new-rule 5 a c b (s .used) (s .solutions) home₁ s₁ p le (λ i j. absurd (omega arith))
       (λ z. absurd (omega arith)) (λ i j. absurd (omega arith)) (λ z. absurd (omega arith))
       (λ z. (g, λ q. let h = l q in let h₀ = h .0 in (h₀, tag-kept barred R n home s home₁ s₁ c e h₀ ∙ h .1))) (λ z. absurd (omega arith)))
       (λ home₁ s₁ e f₁ p. (λ q. (omega arith, p .tag-is), p .sols))
 
-  pub push-hole : (a c : ℕ) → ((a ≡ NONE → ⊥) → (a < s .used) × (tag (s .words) a ≡ 5))
-      → Grows barred (Same (s .solutions) (λ home₁ s₁ x. (x ≡ s .used) × (x < s₁ .used) × (tag (s₁ .words) x ≡ 4))) R n home s (push R 4 a c s)
+  pub push-hole : (a c : ℕ) → ((a ≡ NONE → ⊥) → (a < s .used) × (tag (s .words) a ≡ CE))
+      → Grows barred (Same (s .solutions) (λ home₁ s₁ x. (x ≡ s .used) × (x < s₁ .used) × (tag (s₁ .words) x ≡ HO))) R n home s (push R 4 a c s)
   push-hole a c l =
-      pushing (Same (s .solutions) (λ home₁ s₁ x. (x ≡ s .used) × (x < s₁ .used) × (tag (s₁ .words) x ≡ 4))) 4 a c (omega arith) (λ z. absurd (omega arith)) (λ z o. absurd (omega arith))
+      pushing (Same (s .solutions) (λ home₁ s₁ x. (x ≡ s .used) × (x < s₁ .used) × (tag (s₁ .words) x ≡ HO))) 4 a c (omega arith) (λ z. absurd (omega arith)) (λ z o. absurd (omega arith))
       (λ home₁ s₁ e p. new-rule 4 a c b (s .used) (s .solutions) home₁ s₁ p le (λ i j. absurd (omega arith))
       (λ z. absurd (omega arith)) (λ i j. absurd (omega arith)) (λ z. absurd (omega arith)) (λ z. absurd (omega arith))
       (λ z q. let h = l q in let h₀ = h .0 in (h₀, tag-kept barred R n home s home₁ s₁ a e h₀ ∙ h .1)))
@@ -143,7 +143,7 @@ variables-grow barred R n b (v ∷ vs) home s f le low =
     (push-cell barred R n b home₂ s₂ f₂ (omega arith) x y (length vs) (sub-kept barred R n home₁ s₁ home₂ s₂ b (s₁ .used) (s₂ .used) x e₂ (le-refl _) g₂ (p₁ .0 .sub)) (p₂ .0))
 
 pub occurrence-grows : (barred : ℕ → Type 0) (R n b h : ℕ) (vs : List ℕ) (home : ℕ → ℕ) (s : Store) → Fine R n home s → b ≤ s .used
-    → (barred h → ⊥) → (1 ≤ b → getD (s .solutions) h NONE ≡ NONE) → h < s .used → tag (s .words) h ≡ 4 → length vs ≤ 16 → All (λ v. v ≤ limit (s .used)) vs
+    → (barred h → ⊥) → (1 ≤ b → getD (s .solutions) h NONE ≡ NONE) → h < s .used → tag (s .words) h ≡ HO → length vs ≤ 16 → All (λ v. v ≤ limit (s .used)) vs
     → Grows barred (Same (s .solutions) (Written b (s .used))) R n home s (pushOccurrence R h vs s)
 unfolding pushOccurrence
 occurrence-grows barred R n b h vs home s f le bar free lt four few low =
@@ -155,7 +155,7 @@ occurrence-grows barred R n b h vs home s f le bar free lt four few low =
 
 -- a list that may be empty
 abbrev pub Chain : (ℕ → ℕ) → Store → ℕ → Type 0
-Chain home s x = (x ≡ NONE → ⊥) → (x < s .used) × (tag (s .words) x ≡ 5)
+Chain home s x = (x ≡ NONE → ⊥) → (x < s .used) × (tag (s .words) x ≡ CE)
 
 pub cells-grow : (barred : ℕ → Type 0) (R n : ℕ) (xs : List ℕ) (home : ℕ → ℕ) (s : Store) → Fine R n home s → All (λ y. y < s .used) xs
     → Grows barred (Same (s .solutions) Chain) R n home s (pushCells R xs s)

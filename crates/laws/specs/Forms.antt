@@ -27,9 +27,9 @@ term-of ws r e =
     let p = both-true _ _ e in
     let a = leb-true _ _ (p .0) in
     let b = leb-true _ _ (p .1) in
-    go (ℕ-discrete (tag ws r) 6) (ℕ-discrete (tag ws r) 7) (ℕ-discrete (tag ws r) 8) a b
+    go (ℕ-discrete (tag ws r) LA) (ℕ-discrete (tag ws r) CA) (ℕ-discrete (tag ws r) VA) a b
   where
-    go : Dec (tag ws r ≡ 6) → Dec (tag ws r ≡ 7) → Dec (tag ws r ≡ 8) → 6 ≤ tag ws r → tag ws r ≤ 9 → Term ws r
+    go : Dec (tag ws r ≡ LA) → Dec (tag ws r ≡ CA) → Dec (tag ws r ≡ VA) → 6 ≤ tag ws r → tag ws r ≤ 9 → Term ws r
     go (yes x) _ _ a b = is-lambda x
     go (no x) (yes y) _ a b = is-constant y
     go (no x) (no y) (yes z) a b = is-variable z

@@ -8,7 +8,7 @@ use native.Mathlib.Decide.{ℕ-discrete}
 use lib.ListN.{length, getD}
 use lib.Dec.{eqb}
 use borrow.Author.Tests.{eq-eqb, ne-eqb}
-use Rattle.rules.specs.Words.{NONE, tag, fieldA, fieldB, cells, elements}
+use Rattle.rules.specs.Words.{NONE, tag, fieldA, fieldB, cells, elements, CE}
 
 -- a record's number and one, and 0 of NONE: what falls from a reference to the next
 unfoldable pub size : ℕ → ℕ
@@ -32,15 +32,15 @@ size-below x n h = go (ℕ-discrete x NONE)
 -- cell c refers to lower records, and on to a cell
 pub record Cell (ws : List ℕ) (c : ℕ) : Type 0 where
   pub elem : fieldA ws c < c
-  pub rest : (fieldB ws c ≡ NONE → ⊥) → (fieldB ws c < c) × (tag ws (fieldB ws c) ≡ 5)
+  pub rest : (fieldB ws c ≡ NONE → ⊥) → (fieldB ws c < c) × (tag ws (fieldB ws c) ≡ CE)
 
 -- list l can be read
 pub record Listed (ws : List ℕ) (l : ℕ) : Type 0 where
   pub top : ℕ
   pub inside : 4 * top ≤ length ws
   pub few : top ≤ 4096
-  pub good : (c : ℕ) → c < top → tag ws c ≡ 5 → Cell ws c
-  pub here : (l ≡ NONE → ⊥) → (l < top) × (tag ws l ≡ 5)
+  pub good : (c : ℕ) → c < top → tag ws c ≡ CE → Cell ws c
+  pub here : (l ≡ NONE → ⊥) → (l < top) × (tag ws l ≡ CE)
 
 pub cells-none : (k : ℕ) (ws : List ℕ) (l : ℕ) → l ≡ NONE → cells k ws l ≡ []
 unfolding cells
@@ -51,7 +51,7 @@ pub cells-more : (k : ℕ) (ws : List ℕ) (l : ℕ) → (l ≡ NONE → ⊥) �
 unfolding cells
 cells-more k ws l n = rw (ne-eqb _ _ n, cells)
 
-cells-stable : (j k : ℕ) (ws : List ℕ) (top l : ℕ) → ((c : ℕ) → c < top → tag ws c ≡ 5 → Cell ws c) → ((l ≡ NONE → ⊥) → (l < top) × (tag ws l ≡ 5))
+cells-stable : (j k : ℕ) (ws : List ℕ) (top l : ℕ) → ((c : ℕ) → c < top → tag ws c ≡ CE → Cell ws c) → ((l ≡ NONE → ⊥) → (l < top) × (tag ws l ≡ CE))
     → size l ≤ j → size l ≤ k → cells j ws l ≡ cells k ws l
 cells-stable zero k ws top l good here h g = go (ℕ-discrete l NONE)
   where
@@ -66,7 +66,7 @@ cells-stable (suc j) zero ws top l good here h g = go (ℕ-discrete l NONE)
 cells-stable (suc j) (suc k) ws top l good here h g = go (ℕ-discrete l NONE) (λ p a b. cells-stable j k ws top (fieldB ws l) good p a b)
   where
     go : Dec (l ≡ NONE)
-        → (((fieldB ws l ≡ NONE → ⊥) → (fieldB ws l < top) × (tag ws (fieldB ws l) ≡ 5)) → size (fieldB ws l) ≤ j → size (fieldB ws l) ≤ k → cells j ws (fieldB ws l) ≡ cells k ws (fieldB ws l))
+        → (((fieldB ws l ≡ NONE → ⊥) → (fieldB ws l < top) × (tag ws (fieldB ws l) ≡ CE)) → size (fieldB ws l) ≤ j → size (fieldB ws l) ≤ k → cells j ws (fieldB ws l) ≡ cells k ws (fieldB ws l))
         → cells (suc j) ws l ≡ cells (suc k) ws l
     go (yes e) ih = cells-none _ ws l e ∙ sym (cells-none _ ws l e)
     go (no n) ih =
@@ -96,13 +96,13 @@ elements-cell ws l n h =
     let s = size-below (fieldB ws l) (h .top) (λ m. r .here m .0) in
     cells-more 18446744073709551615 ws l n ∙ ap (λ (xs : List ℕ). fieldA ws l ∷ xs) (cells-stable 18446744073709551615 18446744073709551616 ws (h .top) (fieldB ws l) (h .good) (r .here) (omega arith) (omega arith))
 
-cells-kept : (k : ℕ) (ws ws₁ : List ℕ) (u l : ℕ) → ((i : ℕ) → i < 4 * u → getD ws₁ i 0 ≡ getD ws i 0) → ((c : ℕ) → c < u → tag ws c ≡ 5 → Cell ws c)
-    → ((l ≡ NONE → ⊥) → (l < u) × (tag ws l ≡ 5)) → cells k ws₁ l ≡ cells k ws l
+cells-kept : (k : ℕ) (ws ws₁ : List ℕ) (u l : ℕ) → ((i : ℕ) → i < 4 * u → getD ws₁ i 0 ≡ getD ws i 0) → ((c : ℕ) → c < u → tag ws c ≡ CE → Cell ws c)
+    → ((l ≡ NONE → ⊥) → (l < u) × (tag ws l ≡ CE)) → cells k ws₁ l ≡ cells k ws l
 unfolding cells
 cells-kept zero ws ws₁ u l same good here = refl
 cells-kept (suc k) ws ws₁ u l same good here = go (ℕ-discrete l NONE) (λ g. cells-kept k ws ws₁ u (fieldB ws l) same good g)
   where
-    go : Dec (l ≡ NONE) → (((fieldB ws l ≡ NONE → ⊥) → (fieldB ws l < u) × (tag ws (fieldB ws l) ≡ 5)) → cells k ws₁ (fieldB ws l) ≡ cells k ws (fieldB ws l)) → cells (suc k) ws₁ l ≡ cells (suc k) ws l
+    go : Dec (l ≡ NONE) → (((fieldB ws l ≡ NONE → ⊥) → (fieldB ws l < u) × (tag ws (fieldB ws l) ≡ CE)) → cells k ws₁ (fieldB ws l) ≡ cells k ws (fieldB ws l)) → cells (suc k) ws₁ l ≡ cells (suc k) ws l
     go (yes e) ih = cells-none (suc k) ws₁ l e ∙ sym (cells-none (suc k) ws l e)
     go (no e) ih =
         let q = here e in
@@ -113,7 +113,7 @@ cells-kept (suc k) ws ws₁ u l same good here = go (ℕ-discrete l NONE) (λ g.
         let t = ih (λ g. let lo = r g .0 in (omega arith, r g .1)) in
         rw (cells-more k ws₁ l e, cells-more k ws l e, a₁, b₁, t)
 
-pub elements-kept : (ws ws₁ : List ℕ) (u l : ℕ) → ((i : ℕ) → i < 4 * u → getD ws₁ i 0 ≡ getD ws i 0) → ((c : ℕ) → c < u → tag ws c ≡ 5 → Cell ws c)
-    → ((l ≡ NONE → ⊥) → (l < u) × (tag ws l ≡ 5)) → elements ws₁ l ≡ elements ws l
+pub elements-kept : (ws ws₁ : List ℕ) (u l : ℕ) → ((i : ℕ) → i < 4 * u → getD ws₁ i 0 ≡ getD ws i 0) → ((c : ℕ) → c < u → tag ws c ≡ CE → Cell ws c)
+    → ((l ≡ NONE → ⊥) → (l < u) × (tag ws l ≡ CE)) → elements ws₁ l ≡ elements ws l
 unfolding elements
 elements-kept ws ws₁ u l same good here = cells-kept _ ws ws₁ u l same good here

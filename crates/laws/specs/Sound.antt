@@ -29,9 +29,9 @@ type-tag ws r e =
     let p = both-true _ _ e in
     let a = leb-true _ _ (p .0) in
     let b = leb-true _ _ (p .1) in
-    go (ℕ-discrete (tag ws r) 1) a b
+    go (ℕ-discrete (tag ws r) BT) a b
   where
-    go : Dec (tag ws r ≡ 1) → 1 ≤ tag ws r → tag ws r ≤ 2 → (tag ws r ≡ BT) ⊎ (tag ws r ≡ AR)
+    go : Dec (tag ws r ≡ BT) → 1 ≤ tag ws r → tag ws r ≤ 2 → (tag ws r ≡ BT) ⊎ (tag ws r ≡ AR)
     go (yes x) a b = inl x
     go (no x) a b = inr (omega arith)
 

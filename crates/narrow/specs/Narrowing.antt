@@ -15,7 +15,7 @@ use Rattle.narrow.specs.declared.Narrowed.{Narrowed}
 use Rattle.narrow.specs.declared.Narrowed.the-variants.{To, Failed as Fell}
 use Rattle.places.specs.declared.Map.{Map}
 use Rattle.table.specs.Reading.{IsRecord}
-use Rattle.rules.specs.Words.{tag, fieldA, fieldB, elements}
+use Rattle.rules.specs.Words.{tag, fieldA, fieldB, elements, HO, HA}
 use Rattle.rules.specs.Store.{Store, Out, goes, _>>=_, pushCells, pushOccurrence, settle}
 use Rattle.rules.specs.Walk.{narrow, keepPlaced}
 use Rattle.laws.specs.Lists.{Listed}
@@ -45,14 +45,14 @@ module _ (R n h : ℕ) (ks : List ℕ) (ws ss : List ℕ) (w : Walked) (new u : 
   settle-goes t u₁ p q z = record { run = rw (p, q .run ss, z); grown = since-root _ _ _ (q .grown .since t u₁ z) }
 
 pub narrow-goes : (R n h : ℕ) (m : Map) (ws ss : List ℕ) (u : ℕ) (w : Record) (ws₁ : List ℕ) (x₁ : Walked) (ws₂ : List ℕ) (x₂ : Walked) (ws₃ ss₃ : List ℕ) (x₃ : Walked)
-    → IsRecord ws h w → Does n (pushCells R (contexts ws (w .a) (side true (mapOf false m)))) ws u ws₁ x₁ → Then n (under R 4 (w .b)) ws₁ x₁ ws₂ x₂
+    → IsRecord ws h w → Does n (pushCells R (contexts ws (w .a) (side true (mapOf false m)))) ws u ws₁ x₁ → Then n (under R HO (w .b)) ws₁ x₁ ws₂ x₂
     → Then² n (settling R h (side true (mapOf false m))) ws₂ ss x₂ ws₃ ss₃ x₃ → Does² n (narrow R h (side true (mapOf false m))) ws ss u ws₃ ss₃ x₃
 unfolding narrow
 narrow-goes R n h m ws ss u w ws₁ x₁ ws₂ x₂ ws₃ ss₃ x₃ e p q r =
     let p₁ : pushCells R (contexts ws (fieldA ws h) (side true (mapOf false m))) (store ws ss u) ≡ shown ws₁ ss x₁ = rw (← e .a-is) (p .run ss) in
-    let q₁ : (shown ws₁ ss x₁ >>= under R 4 (fieldB ws h)) ≡ shown ws₂ ss x₂ = rw (← e .b-is) (q .run ss) in
+    let q₁ : (shown ws₁ ss x₁ >>= under R HO (fieldB ws h)) ≡ shown ws₂ ss x₂ = rw (← e .b-is) (q .run ss) in
     record {
-      run = bind-assoc _ (under R 4 (fieldB ws h)) (settling R h (side true (mapOf false m))) ∙ rw (p₁, q₁) (r .run);
+      run = bind-assoc _ (under R HO (fieldB ws h)) (settling R h (side true (mapOf false m))) ∙ rw (p₁, q₁) (r .run);
       grown = r .grown;
     }
 
@@ -130,7 +130,7 @@ module _ (ws ss : List ℕ) (n u R h : ℕ) (m : Map) where
 
 -- the hole of an occurrence, in a fine store, can be narrowed if its context has as many entries as the occurrence has arguments
 module _ (R n : ℕ) (home : ℕ → ℕ) (ws ss : List ℕ) (used b r : ℕ) (f : Fine R n home (store ws ss used)) (is : Sub ws home b used r) (w : Record) (e : IsRecord ws r w) where
-  pub narrows : tag ws r ≡ 9 → (kept : Map) → Whole kept → length (elements ws (fieldA ws (fieldA ws r))) ≡ kept .len → Narrowing ws ss n used R (w .a) kept
+  pub narrows : tag ws r ≡ HA → (kept : Map) → Whole kept → length (elements ws (fieldA ws (fieldA ws r))) ≡ kept .len → Narrowing ws ss n used R (w .a) kept
   narrows nine kept whole arity =
       let o = f .good r (is .below) .occ nine in
       let a = o .below in

@@ -77,9 +77,9 @@ pub term-tag : (ws : List ℕ) (r : ℕ) → isTerm ws r ≡ true → TermTag ws
 unfolding isTerm
 term-tag ws r e =
     let p = both-true _ _ e in
-    go (leb-true 6 (tag ws r) (p .0)) (leb-true (tag ws r) 9 (p .1)) (ℕ-discrete (tag ws r) 6) (ℕ-discrete (tag ws r) 7) (ℕ-discrete (tag ws r) 8)
+    go (leb-true 6 (tag ws r) (p .0)) (leb-true (tag ws r) 9 (p .1)) (ℕ-discrete (tag ws r) LA) (ℕ-discrete (tag ws r) CA) (ℕ-discrete (tag ws r) VA)
   where
-    go : 6 ≤ tag ws r → tag ws r ≤ 9 → Dec (tag ws r ≡ 6) → Dec (tag ws r ≡ 7) → Dec (tag ws r ≡ 8) → TermTag ws r
+    go : 6 ≤ tag ws r → tag ws r ≤ 9 → Dec (tag ws r ≡ LA) → Dec (tag ws r ≡ CA) → Dec (tag ws r ≡ VA) → TermTag ws r
     go a b (yes x) y z = is-lam x
     go a b (no x) (yes y) z = is-con y
     go a b (no x) (no y) (yes z) = is-var z

@@ -6,7 +6,7 @@ use native.Mathlib.Omega.{arith}
 use lib.ListN.{length}
 use mir.Syntax.{w32}
 use mir.Val.{Fits}
-use Rattle.rules.specs.Words.{tag}
+use Rattle.rules.specs.Words.{tag, LA}
 use Rattle.rules.specs.Store.{Out, _>>=_}
 use Rattle.store.specs.declared.Walked.{Walked}
 use Rattle.table.specs.declared.Record.{Record}
@@ -20,9 +20,9 @@ pub record Opens (ready : ℕ → ℕ → Type 0) (gives : List ℕ → ℕ → 
   pub depth : (d r : ℕ) → ready d r → Fits w32 (d + 1)
   pub read : (d r : ℕ) → ready d r → 4 * r + 3 < length ws
   pub room : (d r : ℕ) → ready d r → 4 * R ≤ length os
-  pub less : (d r : ℕ) (w : Record) → IsRecord ws r w → w .tag ≡ 6 → ready d r → w .a < r
-  pub body : (d r : ℕ) (w : Record) → IsRecord ws r w → w .tag ≡ 6 → ready d r → ready (d + 1) (w .a)
-  pub over : (d r : ℕ) (w : Record) → IsRecord ws r w → w .tag ≡ 6 → w .a < r → (ss : List ℕ) (o : Out ℕ) → gives ss (d + 1) (w .a) o → gives ss d r (o >>= under R 6 0)
+  pub less : (d r : ℕ) (w : Record) → IsRecord ws r w → w .tag ≡ LA → ready d r → w .a < r
+  pub body : (d r : ℕ) (w : Record) → IsRecord ws r w → w .tag ≡ LA → ready d r → ready (d + 1) (w .a)
+  pub over : (d r : ℕ) (w : Record) → IsRecord ws r w → w .tag ≡ LA → w .a < r → (ss : List ℕ) (o : Out ℕ) → gives ss (d + 1) (w .a) o → gives ss d r (o >>= under R LA 0)
 
 -- at the term r at depth d, whose record is w: what is written from r₀ at d₀ is what is written from here and the lambdas between
 pub record Below (ready : ℕ → ℕ → Type 0) (gives : List ℕ → ℕ → ℕ → Out ℕ → Type 0) (R : ℕ) (ws os : List ℕ) (d₀ r₀ d r : ℕ) (w : Record) : Type 0 where
@@ -50,7 +50,7 @@ module _ {ready : ℕ → ℕ → Type 0} {gives : List ℕ → ℕ → ℕ → 
     pub below-depth : Fits w32 (d + 1)
     below-depth = h .opens .depth d r (h .on)
 
-    module _ (t : w .tag ≡ 6) where
+    module _ (t : w .tag ≡ LA) where
       pub below-less : w .a < r
       below-less = h .opens .less d r w (h .is) t (h .on)
 
@@ -71,11 +71,11 @@ module _ {ready : ℕ → ℕ → Type 0} {gives : List ℕ → ℕ → ℕ → 
             less = omega arith;
             is = e;
             on = next;
-            leads = λ ss o g. rw (lambdas-one R ((d + 1) - d₀) (d - d₀) o (omega arith)) (h .leads ss (o >>= under R 6 0) (h .opens .over d r w (h .is) t k ss o g));
+            leads = λ ss o g. rw (lambdas-one R ((d + 1) - d₀) (d - d₀) o (omega arith)) (h .leads ss (o >>= under R LA 0) (h .opens .over d r w (h .is) t k ss o g));
           }
 
     -- no lambda
-    pub below-plain : (w .tag ≡ 6 → ⊥) → tag ws r ≡ 6 → ⊥
+    pub below-plain : (w .tag ≡ LA → ⊥) → tag ws r ≡ LA → ⊥
     below-plain ne q = ne (h .is .tag-is ∙ q)
 
     pub below-then : (os₁ : List ℕ) → length os₁ ≡ length os → 4 * R ≤ length os₁

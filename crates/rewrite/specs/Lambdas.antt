@@ -6,18 +6,19 @@ use native.Mathlib.Omega.{arith}
 use lib.ListN.{length}
 use Rattle.store.specs.declared.Walked.{Walked}
 use Rattle.rules.specs.Store.{Out, _>>=_}
+use Rattle.rules.specs.Words.{LA}
 use Rattle.store.specs.Said.{Since, Then, shown, under}
 
 -- k lambdas over what was written
 unfoldable pub lambdas : ℕ → ℕ → Out ℕ → Out ℕ
 lambdas R zero o = o
-lambdas R (suc k) o = lambdas R k (o >>= under R 6 0)
+lambdas R (suc k) o = lambdas R k (o >>= under R LA 0)
 
 pub lambdas-none : (R k : ℕ) (o : Out ℕ) → k ≡ 0 → lambdas R k o ≡ o
 unfolding lambdas
 lambdas-none R k o e = rw e
 
-pub lambdas-one : (R k j : ℕ) (o : Out ℕ) → k ≡ suc j → lambdas R k o ≡ lambdas R j (o >>= under R 6 0)
+pub lambdas-one : (R k j : ℕ) (o : Out ℕ) → k ≡ suc j → lambdas R k o ≡ lambdas R j (o >>= under R LA 0)
 unfolding lambdas
 lambdas-one R k j o e = rw e
 
@@ -50,7 +51,7 @@ module _ (n R k : ℕ) (ws₀ : List ℕ) (w₀ : Walked) where
     pub turn-ends : left ≡ 0 → Under n R k ws₀ w₀ ws w
     turn-ends e = record { run = λ ss. h .leads ss ∙ lambdas-none R left (shown ws ss w) e; grown = h .grown }
 
-    pub turn-next : (ws₁ : List ℕ) (x : Walked) → (left ≡ 0 → ⊥) → length ws₁ ≡ length ws → Then n (under R 6 0) ws w ws₁ x → Turn n R k ws₀ w₀ ws₁ x (left - 1)
+    pub turn-next : (ws₁ : List ℕ) (x : Walked) → (left ≡ 0 → ⊥) → length ws₁ ≡ length ws → Then n (under R LA 0) ws w ws₁ x → Turn n R k ws₀ w₀ ws₁ x (left - 1)
     turn-next ws₁ x ne e p =
         let q = h .room in
         record {

@@ -6,7 +6,7 @@ use native.Mathlib.Omega.{arith}
 use lib.ListN.{length}
 use Rattle.table.specs.declared.Record.{Record}
 use Rattle.table.specs.Reading.{IsRecord}
-use Rattle.rules.specs.Words.{NONE, tag, fieldB, elements, arguments, variables}
+use Rattle.rules.specs.Words.{NONE, tag, fieldB, elements, arguments, variables, LA, HA}
 use Rattle.laws.specs.Lists.{Cell, Listed, size, size-real, size-below, elements-cell}
 use Rattle.invariants.specs.Floor.{Sub, All, Args, Fine, limit}
 use Rattle.invariants.specs.Grow.{all-map, listed-of, args-less}
@@ -30,7 +30,7 @@ module _ (R n : ℕ) (home : ℕ → ℕ) (ws ss : List ℕ) (used b r : ℕ) (f
 
   module _ (w : Record) (e : IsRecord ws r w) where
     -- the body of a lambda
-    pub body-at : w .tag ≡ 6 → Sub ws home b r (w .a)
+    pub body-at : w .tag ≡ LA → Sub ws home b r (w .a)
     body-at t =
         let l = f .good r (is .below) .lam (sym (e .tag-is) ∙ t) in
         let u = l .up in
@@ -38,7 +38,7 @@ module _ (R n : ℕ) (home : ℕ → ℕ) (ws ss : List ℕ) (used b r : ℕ) (f
         rw (e .a-is) (record { below = l .below; term = l .term; up = omega arith })
 
     -- the arguments of an applied head
-    pub args-at : (w .tag ≡ 6 → ⊥) → Args ws home b r (w .b)
+    pub args-at : (w .tag ≡ LA → ⊥) → Args ws home b r (w .b)
     args-at k =
         let t = e .tag-is in
         let lo = is .term .low in
@@ -46,18 +46,18 @@ module _ (R n : ℕ) (home : ℕ → ℕ) (ws ss : List ℕ) (used b r : ℕ) (f
         let u = is .up in
         rw (e .b-is) (args-less ws home (home r) b r r (fieldB ws r) (f .good r (is .below) .app z (is .term .high)) u (omega arith))
 
-    pub size-args : (w .tag ≡ 6 → ⊥) → size (w .b) ≤ r
+    pub size-args : (w .tag ≡ LA → ⊥) → size (w .b) ≤ r
     size-args k = let a = args-at k in size-below (w .b) r (λ q. a .here q .0)
 
-    pub few-at : (w .tag ≡ 6 → ⊥) → length (elements ws (w .b)) ≤ 16
+    pub few-at : (w .tag ≡ LA → ⊥) → length (elements ws (w .b)) ≤ 16
     few-at k = let t = e .tag-is in let lo = is .term .low in rw (e .b-is) (f .good r (is .below) .few (omega arith) (is .term .high))
 
     -- an occurrence's arguments can be read
-    pub counts-at : tag ws r ≡ 9 → Counts ws (w .b)
+    pub counts-at : tag ws r ≡ HA → Counts ws (w .b)
     counts-at nine = rw (e .b-is) (counts-of (omega arith))
 
     -- an occurrence's hole
-    pub hole-held : tag ws r ≡ 9 → w .a < length ss
+    pub hole-held : tag ws r ≡ HA → w .a < length ss
     hole-held nine =
         let a = f .good r (is .below) .occ nine .below in
         let z = e .a-is in
@@ -67,7 +67,7 @@ module _ (R n : ℕ) (home : ℕ → ℕ) (ws ss : List ℕ) (used b r : ℕ) (f
         omega arith
 
     -- an occurrence's arguments name variables, and NONE is none
-    pub names-at : tag ws r ≡ 9 → All (λ v. v < NONE) (varsOf ws (w .b))
+    pub names-at : tag ws r ≡ HA → All (λ v. v < NONE) (varsOf ws (w .b))
     unfolding variables arguments
     names-at nine =
         let lt = is .below in

@@ -7,7 +7,7 @@ use native.Mathlib.Decide.{ℕ-discrete}
 use lib.ListN.{length}
 use Rattle.table.specs.declared.Record.{Record}
 use Rattle.table.specs.Reading.{IsRecord}
-use Rattle.rules.specs.Words.{NONE, fieldB, elements}
+use Rattle.rules.specs.Words.{NONE, fieldB, elements, LA, CA, VA, HA}
 use Rattle.laws.specs.Lists.{size}
 use Rattle.invariants.specs.Floor.{Sub, Args, Fine}
 use Rattle.invariants.specs.Grow.{sub-less, args-less}
@@ -43,7 +43,7 @@ module _ {R n : ℕ} {home : ℕ → ℕ} {ws ss : List ℕ} {used F c d : ℕ} 
 
     module _ (w : Record) (e : IsRecord ws r w) where
       -- the body of a lambda
-      module _ (t : w .tag ≡ 6) where
+      module _ (t : w .tag ≡ LA) where
         body : Sub ws home F r (w .a)
         body = body-at R n home ws ss used F r (h .fine) (h .is) w e t
 
@@ -57,17 +57,17 @@ module _ {R n : ℕ} {home : ℕ → ℕ} {ws ss : List ℕ} {used F c d : ℕ} 
             record { fine = h .fine; is = sub-less ws home F F r used (w .a) body (omega arith) (omega arith); known = rw (e .a-is) (walk-body (h .known) (sym (e .tag-is) ∙ t)) }
 
       -- a rigid head
-      pub at-variable : w .tag ≡ 8 → w .a < d + c
+      pub at-variable : w .tag ≡ VA → w .a < d + c
       at-variable t = rw (e .a-is) (walk-variable (h .known) (sym (e .tag-is) ∙ t) .0)
 
-      module _ (a : w .tag ≡ 6 → ⊥) (b : w .tag ≡ 9 → ⊥) where
+      module _ (a : w .tag ≡ LA → ⊥) (b : w .tag ≡ HA → ⊥) where
         pub at-size : size (w .b) ≤ r
         at-size = size-args R n home ws ss used F r (h .fine) (h .is) w e a
 
         knows : WalkAllKnown R (store ws ss used) c d (w .b)
-        knows = rw (e .b-is) (go (ℕ-discrete (w .tag) 7))
+        knows = rw (e .b-is) (go (ℕ-discrete (w .tag) CA))
           where
-            go : Dec (w .tag ≡ 7) → WalkAllKnown R (store ws ss used) c d (fieldB ws r)
+            go : Dec (w .tag ≡ CA) → WalkAllKnown R (store ws ss used) c d (fieldB ws r)
             go (yes t) = walk-constant (h .known) (sym (e .tag-is) ∙ t)
             go (no t) = let lo = h .is .term .low in let hi = h .is .term .high in let z = e .tag-is in walk-variable (h .known) (omega arith) .1
 

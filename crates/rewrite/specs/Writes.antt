@@ -6,7 +6,7 @@ use native.Mathlib.Omega.{arith}
 use Rattle.store.specs.declared.Walked.{Walked}
 use Rattle.table.specs.declared.Record.{Record}
 use Rattle.table.specs.Reading.{IsRecord}
-use Rattle.rules.specs.Words.{NONE, tag, elements}
+use Rattle.rules.specs.Words.{NONE, tag, elements, LA, HA}
 use Rattle.rules.specs.Store.{Store, Out, _>>=_, push}
 use Rattle.rules.specs.Map.{Map}
 use Rattle.rules.specs.Rewrite.{Writer, writeAll, writeTerm}
@@ -39,12 +39,12 @@ module _ {write hole : ℕ → Writer} {reads : Store → List ℕ} {R : ℕ} (u
   pub gives-level : (o : Out ℕ) → ((k : ℕ) → reach T F (suc r) ≤ k → writeTerm (hole k) (write k) R (reads s) m d r s ≡ o) → Gives write T F m d r s o
   gives-level o h f hf = let q = fuel f _ hf in rw (q .1) (u .level (q .0) m d r s ∙ h (q .0) (q .2))
 
-  pub writes-hole : (ws₁ ss₁ : List ℕ) (x : Walked) → tag (reads s) r ≡ 9 → Since n x → ((k : ℕ) → reach T F (suc r) ≤ k → hole k m d r s ≡ shown ws₁ ss₁ x) → WritesTerm write T n F m d r s ws₁ ss₁ x
+  pub writes-hole : (ws₁ ss₁ : List ℕ) (x : Walked) → tag (reads s) r ≡ HA → Since n x → ((k : ℕ) → reach T F (suc r) ≤ k → hole k m d r s ≡ shown ws₁ ss₁ x) → WritesTerm write T n F m d r s ws₁ ss₁ x
   writes-hole ws₁ ss₁ x t g h = record { run = gives-level _ λ k hk. level-hole (hole k) (write k) R (reads s) m d r s t ∙ h k hk; grown = g }
 
   module _ (w : Record) (e : IsRecord (reads s) r w) where
     -- whatever the body is written as, the lambda is written after it
-    pub gives-lambda : (o : Out ℕ) → w .tag ≡ 6 → w .a < r → Gives write T F m (d + 1) (w .a) s o → Gives write T F m d r s (o >>= under R 6 0)
+    pub gives-lambda : (o : Out ℕ) → w .tag ≡ LA → w .a < r → Gives write T F m (d + 1) (w .a) s o → Gives write T F m d r s (o >>= under R LA 0)
     gives-lambda o t lt h = gives-level _ λ k hk. level-lambda (hole k) (write k) R (reads s) m d r s w e t ∙ rw (h k (omega arith))
 
     pub writes-rigid : (v : ℕ) (ws₁ ss₁ : List ℕ) (x : Walked) (ws₂ : List ℕ) (y : Walked) → Headed m d w v → size (w .b) ≤ r → WritesList write reads R T n F m d (w .b) s ws₁ ss₁ x

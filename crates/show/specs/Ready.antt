@@ -11,7 +11,7 @@ use Rattle.store.specs.declared.Walked.{Walked}
 use Rattle.table.specs.declared.Record.{Record}
 use Rattle.table.specs.Reading.{IsRecord}
 use Rattle.places.specs.declared.Map.{Map}
-use Rattle.rules.specs.Words.{NONE, tag, fieldA, arguments, variables}
+use Rattle.rules.specs.Words.{NONE, tag, fieldA, arguments, variables, LA, VA, HA}
 use Rattle.laws.specs.Lists.{size}
 use Rattle.invariants.specs.Floor.{Sub, Fine}
 use Rattle.invariants.specs.Places.{Low, followed}
@@ -60,7 +60,7 @@ pub record ReadyTerm (O : ℕ) (m : Map) (ws ss os : List ℕ) (F d r : ℕ) : T
 -- a term that is no lambda
 pub record ReadyBody (O : ℕ) (m : Map) (ws ss os : List ℕ) (F d r : ℕ) : Type 0 where
   pub on : ReadyTerm O m ws ss os F d r
-  pub plain : tag ws r ≡ 6 → ⊥
+  pub plain : tag ws r ≡ LA → ⊥
 
 -- a list
 pub record ReadyList (O : ℕ) (m : Map) (ws ss os : List ℕ) (F d l : ℕ) : Type 0 where
@@ -94,7 +94,7 @@ module _ {O : ℕ} {m : Map} {ws ss os : List ℕ} {F d r : ℕ} where
   to-read h = at-read (h .at)
 
   -- the body of a lambda
-  pub to-body : (w : Record) → IsRecord ws r w → w .tag ≡ 6 → ReadyTerm O m ws ss os F d r → ReadyTerm O m ws ss os F (d + 1) (w .a)
+  pub to-body : (w : Record) → IsRecord ws r w → w .tag ≡ LA → ReadyTerm O m ws ss os F d r → ReadyTerm O m ws ss os F (d + 1) (w .a)
   to-body w e k h =
       let l = at-less (h .at) w e k in
       record { table = h .table; scope = h .scope; at = at-body (h .at) w e k; on = on-part (d + 1) (suc (w .a)) os (h .on) refl (omega arith); full = h .full }
@@ -112,14 +112,14 @@ module _ {O : ℕ} {m : Map} {ws ss os : List ℕ} {F d r : ℕ} where
 
   module _ (w : Record) (e : IsRecord ws r w) (h : ReadyBody O m ws ss os F d r) where
     -- a rigid head
-    pub to-name : w .tag ≡ 8 → Renaming m d (w .a)
+    pub to-name : w .tag ≡ VA → Renaming m d (w .a)
     to-name t = let p = full-place (h .on .full) d (w .a) (at-variable (h .on .at) w e t) in record { looks = looks-on (h .on .on); to = p .0; has = p .1 }
 
-    module _ (b : w .tag ≡ 9 → ⊥) where
-      a : w .tag ≡ 6 → ⊥
+    module _ (b : w .tag ≡ HA → ⊥) where
+      a : w .tag ≡ LA → ⊥
       a q = h .plain (sym (e .tag-is) ∙ q)
 
-      pub head-kept : (x : ℕ) → (w .tag ≡ 8 → ⊥) → x ≡ w .a → Headed (mapOf false m) d w x
+      pub head-kept : (x : ℕ) → (w .tag ≡ VA → ⊥) → x ≡ w .a → Headed (mapOf false m) d w x
       head-kept x c q = let p = h .plain in let lo = h .on .at .is .term .low in let hi = h .on .at .is .term .high in let z = e .tag-is in of-constant (omega arith) (sym q)
 
       -- the cycle's measure is twice the reach, and one more at a term whose lambdas are not yet taken off
@@ -136,8 +136,8 @@ module _ {O : ℕ} {m : Map} {ws ss os : List ℕ} {F d r : ℕ} where
       shows-rigid v os₁ used x os₂ y t p q = writes-rigid (unrolls O ws) 4096 0 F (mapOf false m) d r os ss used w e v os₁ ss x os₂ y t (at-size (h .on .at) w e a b) p q
 
     -- an occurrence
-    module _ (k : w .tag ≡ 9) where
-      nine : tag ws r ≡ 9
+    module _ (k : w .tag ≡ HA) where
+      nine : tag ws r ≡ HA
       nine = sym (e .tag-is) ∙ k
 
       pub to-names : Renamings ws m d (w .b)

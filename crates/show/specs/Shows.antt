@@ -10,7 +10,7 @@ use Rattle.store.specs.declared.Walked.{Walked}
 use Rattle.table.specs.declared.Record.{Record}
 use Rattle.table.specs.Reading.{IsRecord}
 use Rattle.places.specs.declared.Map.{Map}
-use Rattle.rules.specs.Words.{NONE, tag, fieldB, arguments, variables}
+use Rattle.rules.specs.Words.{NONE, tag, fieldB, arguments, variables, HA}
 use Rattle.rules.specs.Store.{Out, push, pushOccurrence, solved, solution}
 use Rattle.rules.specs.Map.{follow}
 use Rattle.rules.specs.Show.{showHole, expandHole, showTerm}
@@ -45,7 +45,7 @@ module _ (O : ℕ) (m : Map) (ws ss os : List ℕ) (used F d r : ℕ) (w : Recor
   pub show-leaf : (v : ℕ) (os₁ : List ℕ) (x : Walked) → Headed (mapOf false m) d w v → w .b ≡ NONE → Does 0 (push O (w .tag) v NONE) os used os₁ x → ShowsTerm O m ws ss os used F d r os₁ x
   show-leaf = writes-leaf (unrolls O ws) 4096 0 F (mapOf false m) d r os ss used w e
 
-  pub show-occurrence : (next : Map) (G : ℕ) (os₁ : List ℕ) (x : Walked) → tag ws r ≡ 9 → Followed ws false m d (w .b) next → reach 4096 G 4097 < reach 4096 F (suc r)
+  pub show-occurrence : (next : Map) (G : ℕ) (os₁ : List ℕ) (x : Walked) → tag ws r ≡ HA → Followed ws false m d (w .b) next → reach 4096 G 4097 < reach 4096 F (suc r)
       → ShowsHole O next ws ss os used G (w .a) os₁ x → ShowsTerm O m ws ss os used F d r os₁ x
   unfolding expandHole variables arguments
   show-occurrence next G os₁ x t f lt h =

@@ -33,28 +33,28 @@ unfoldable pub headSolution : List ℕ → List ℕ → ℕ → ℕ
 headSolution ws ss r = elim (has ws r HA) [ true ↦ getD ss (fieldA ws r) NONE | false ↦ NONE ]
 
 module _ (ws ss : List ℕ) (r : ℕ) where
-  pub head-hole : (w : Record) (t : ℕ) → IsRecord ws r w → w .tag ≡ 9 → getD ss (w .a) NONE ≡ t → headSolution ws ss r ≡ t
+  pub head-hole : (w : Record) (t : ℕ) → IsRecord ws r w → w .tag ≡ HA → getD ss (w .a) NONE ≡ t → headSolution ws ss r ≡ t
   unfolding headSolution has
   head-hole w t e k p = rw (eq-eqb _ _ (sym (e .tag-is) ∙ k), headSolution, ← e .a-is) p
 
-  pub head-other : (w : Record) → IsRecord ws r w → (w .tag ≡ 9 → ⊥) → headSolution ws ss r ≡ NONE
+  pub head-other : (w : Record) → IsRecord ws r w → (w .tag ≡ HA → ⊥) → headSolution ws ss r ≡ NONE
   unfolding headSolution has
-  head-other w e k = let n : tag ws r ≡ 9 → ⊥ = λ z. k (e .tag-is ∙ z) in rw (ne-eqb _ _ n, headSolution)
+  head-other w e k = let n : tag ws r ≡ HA → ⊥ = λ z. k (e .tag-is ∙ z) in rw (ne-eqb _ _ n, headSolution)
 
-  head-solved : (t : ℕ) → headSolution ws ss r ≡ t → (t ≡ NONE → ⊥) → (tag ws r ≡ 9) × (getD ss (fieldA ws r) NONE ≡ t)
+  head-solved : (t : ℕ) → headSolution ws ss r ≡ t → (t ≡ NONE → ⊥) → (tag ws r ≡ HA) × (getD ss (fieldA ws r) NONE ≡ t)
   unfolding headSolution has
-  head-solved t e n = go (ℕ-discrete (tag ws r) 9)
+  head-solved t e n = go (ℕ-discrete (tag ws r) HA)
     where
-      go : Dec (tag ws r ≡ 9) → (tag ws r ≡ 9) × (getD ss (fieldA ws r) NONE ≡ t)
+      go : Dec (tag ws r ≡ HA) → (tag ws r ≡ HA) × (getD ss (fieldA ws r) NONE ≡ t)
       go (yes k) = (k, rw (eq-eqb _ _ k, headSolution) at e)
       go (no k) = absurd (n (sym (rw (ne-eqb _ _ k, headSolution) at e)))
 
 -- what looking at a side's head asks
 pub record Heading (ws ss : List ℕ) (r : ℕ) : Type 0 where
   pub inside : 4 * r + 3 < length ws
-  pub held : tag ws r ≡ 9 → fieldA ws r < length ss
+  pub held : tag ws r ≡ HA → fieldA ws r < length ss
 
-pub heading-held : (ws ss : List ℕ) (r : ℕ) (w : Record) → Heading ws ss r → IsRecord ws r w → w .tag ≡ 9 → w .a < length ss
+pub heading-held : (ws ss : List ℕ) (r : ℕ) (w : Record) → Heading ws ss r → IsRecord ws r w → w .tag ≡ HA → w .a < length ss
 heading-held ws ss r w h e k = let g = h .held (sym (e .tag-is) ∙ k) in let z = e .a-is in omega arith
 
 -- what expanding asks of a side
@@ -73,9 +73,9 @@ pub record Expands (R n : ℕ) (ws ss : List ℕ) (used r : ℕ) (ws₁ ss₁ : 
 module _ (R n : ℕ) (ws ss : List ℕ) (used r : ℕ) where
   expand-done : headSolution ws ss r ≡ NONE → n ≤ used → Expands R n ws ss used r ws ss (Root r used)
   unfolding expand both has solved headSolution
-  expand-done e h = record { run = λ f hf. let q = fuel f _ hf in rw (q .1) (go (q .0) (ℕ-discrete (tag ws r) 9)); grown = since-root _ _ _ h }
+  expand-done e h = record { run = λ f hf. let q = fuel f _ hf in rw (q .1) (go (q .0) (ℕ-discrete (tag ws r) HA)); grown = since-root _ _ _ h }
     where
-      go : (k : ℕ) → Dec (tag ws r ≡ 9) → expand (suc k) R r (store ws ss used) ≡ goes (store ws ss used) r
+      go : (k : ℕ) → Dec (tag ws r ≡ HA) → expand (suc k) R r (store ws ss used) ≡ goes (store ws ss used) r
       go k (yes t) = let z : getD ss (fieldA ws r) NONE ≡ NONE = (rw (eq-eqb _ _ t, headSolution) at e) in rw (eq-eqb _ _ t, expand, z)
       go k (no t) = rw (ne-eqb _ _ t, expand)
 

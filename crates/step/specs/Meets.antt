@@ -14,7 +14,7 @@ use Rattle.table.specs.Reading.{IsRecord}
 use Rattle.step.specs.declared.Meeting.{Meeting}
 use Rattle.step.specs.declared.Meeting.the-variants.{Bodies, Arguments, SameHole, Solve, Clash}
 use Rattle.rules.specs.Lists.{both, either}
-use Rattle.rules.specs.Words.{tag, fieldA, fieldB, has, elements, arguments}
+use Rattle.rules.specs.Words.{tag, fieldA, fieldB, has, elements, arguments, LA, CA, VA, HA}
 use Rattle.rules.specs.Store.{Store, Out, goes, fail, _>>=_}
 use Rattle.rules.specs.Walk.{assign}
 use Rattle.rules.specs.Machine.{Pair as Waiting, Next, on, done, zip, join, sameHole, sameHead, solveOne, meet}
@@ -39,7 +39,7 @@ first-fails t = record { yes = λ p. let w : _≡_ {A = ℕ} 0 1 = cc in absurd 
 
 -- two lambdas
 abbrev pub TwoLambdas : Record → Record → Bool → Type 0
-TwoLambdas x y b = Tested (x .tag ≡ 6) (y .tag ≡ 6) b
+TwoLambdas x y b = Tested (x .tag ≡ LA) (y .tag ≡ LA) b
 
 -- of one kind, with equal heads
 abbrev pub SameHeads : Record → Record → Bool → Type 0
@@ -78,8 +78,8 @@ meetAs Clash R C q l r s = fail Clashes s
 abbrev pub FactOf : List ℕ → ℕ → ℕ → Meeting → Type 0
 FactOf ws l r (Bodies a b) = Unit {0}
 FactOf ws l r (Arguments a b) = (7 ≤ tag ws l) × (tag ws l ≤ 8) × (tag ws r ≡ tag ws l) × (fieldA ws l ≡ fieldA ws r) × (a ≡ fieldB ws l) × (b ≡ fieldB ws r)
-FactOf ws l r SameHole = (tag ws l ≡ 9) × (tag ws r ≡ 9) × (fieldA ws l ≡ fieldA ws r)
-FactOf ws l r (Solve a b) = (tag ws a ≡ 9) × Sides l r a b
+FactOf ws l r SameHole = (tag ws l ≡ HA) × (tag ws r ≡ HA) × (fieldA ws l ≡ fieldA ws r)
+FactOf ws l r (Solve a b) = (tag ws a ≡ HA) × Sides l r a b
 FactOf ws l r Clash = Unit {0}
 
 pub record MeetsAs (ws : List ℕ) (l r : ℕ) (k : Meeting) : Type 0 where
@@ -195,9 +195,9 @@ module _ (ws : List ℕ) (l r : ℕ) (h : Terms ws l r) (x y : Record) (ex : IsR
 
     module _ (a : c ≡ false) (s : Bool) (sh : SameHeads x y s) where
       none : both (has ws l 6) (has ws r 6) ≡ false
-      none = go (ℕ-discrete (tag ws l) 6)
+      none = go (ℕ-discrete (tag ws l) LA)
         where
-          go : Dec (tag ws l ≡ 6) → both (has ws l 6) (has ws r 6) ≡ false
+          go : Dec (tag ws l ≡ LA) → both (has ws l 6) (has ws r 6) ≡ false
           go (no p) = both-left _ _ (has-not ws l 6 p)
           go (yes p) = both-right _ _ (has-is ws l 6 p) (has-not ws r 6 (λ k. tl .no a (ex .tag-is ∙ p) (ey .tag-is ∙ k)))
 
@@ -205,29 +205,29 @@ module _ (ws : List ℕ) (l r : ℕ) (h : Terms ws l r) (x y : Record) (ex : IsR
       alike : s ≡ true → (tag ws r ≡ tag ws l) × (fieldA ws l ≡ fieldA ws r)
       alike e = let p = sh .yes e in (sym (ey .tag-is) ∙ sym (p .0) ∙ ex .tag-is, sym (ex .a-is) ∙ p .1 ∙ ey .a-is)
 
-      pub meets-same : s ≡ true → x .tag ≡ 9 → MeetsAs ws l r SameHole
+      pub meets-same : s ≡ true → x .tag ≡ HA → MeetsAs ws l r SameHole
       meets-same e t =
           let p = alike e in
           let l₁ = left-is 9 t in
-          let r₁ : tag ws r ≡ 9 = p .0 ∙ l₁ in
-          let n₇ : tag ws l ≡ 7 → ⊥ = omega arith in
-          let n₈ : tag ws l ≡ 8 → ⊥ = omega arith in
+          let r₁ : tag ws r ≡ HA = p .0 ∙ l₁ in
+          let n₇ : tag ws l ≡ CA → ⊥ = omega arith in
+          let n₈ : tag ws l ≡ VA → ⊥ = omega arith in
           record { run = λ R C q ss u. meet-same R C q ws ss u l r none (either-none _ _ (same-not ws 7 l r n₇) (same-not ws 8 l r n₈)) (same-yes ws 9 l r l₁ r₁ (p .1)); fact = (l₁, r₁, p .1) }
 
-      pub meets-arguments : s ≡ true → (x .tag ≡ 9 → ⊥) → MeetsAs ws l r (Arguments (x .b) (y .b))
+      pub meets-arguments : s ≡ true → (x .tag ≡ HA → ⊥) → MeetsAs ws l r (Arguments (x .b) (y .b))
       unfolding arguments
       meets-arguments e t =
           let p = alike e in
-          record { run = λ R C q ss u. rw (ex .b-is, ey .b-is) (meet-arguments R C q ws ss u l r none (go p (ℕ-discrete (tag ws l) 7))); fact = (seven (tag ws l) (h .left .low) (unlike p), at-most (tag ws l) (h .left .high) (left-not 9 t), p .0, p .1, ex .b-is, ey .b-is) }
+          record { run = λ R C q ss u. rw (ex .b-is, ey .b-is) (meet-arguments R C q ws ss u l r none (go p (ℕ-discrete (tag ws l) CA))); fact = (seven (tag ws l) (h .left .low) (unlike p), at-most (tag ws l) (h .left .high) (left-not 9 t), p .0, p .1, ex .b-is, ey .b-is) }
         where
           -- of one kind, and so no lambdas
-          unlike : (tag ws r ≡ tag ws l) × (fieldA ws l ≡ fieldA ws r) → tag ws l ≡ 6 → ⊥
+          unlike : (tag ws r ≡ tag ws l) × (fieldA ws l ≡ fieldA ws r) → tag ws l ≡ LA → ⊥
           unlike p z = tl .no a (ex .tag-is ∙ z) (ey .tag-is ∙ p .0 ∙ z)
 
-          go : (tag ws r ≡ tag ws l) × (fieldA ws l ≡ fieldA ws r) → Dec (tag ws l ≡ 7) → either (sameHead ws 7 l r) (sameHead ws 8 l r) ≡ true
+          go : (tag ws r ≡ tag ws l) × (fieldA ws l ≡ fieldA ws r) → Dec (tag ws l ≡ CA) → either (sameHead ws 7 l r) (sameHead ws 8 l r) ≡ true
           go p (yes k) = either-left _ _ (same-yes ws 7 l r k (p .0 ∙ k) (p .1))
           go p (no k) =
-              let k₀ : tag ws l ≡ 8 = eight (tag ws l) (h .left .low) (h .left .high) (unlike p) k (left-not 9 t) in
+              let k₀ : tag ws l ≡ VA = eight (tag ws l) (h .left .low) (h .left .high) (unlike p) k (left-not 9 t) in
               either-right _ _ (same-not ws 7 l r k) (same-yes ws 8 l r k₀ (p .0 ∙ k₀) (p .1))
 
       module _ (e : s ≡ false) where
@@ -237,12 +237,12 @@ module _ (ws : List ℕ) (l r : ℕ) (h : Terms ws l r) (x y : Record) (ex : IsR
         solves : (R C : ℕ) (q : List Waiting) (ss : List ℕ) (u : ℕ) → meet R C q l r (store ws ss u) ≡ (solveOne R l r (store ws ss u) >>= finish q)
         solves R C q ss u = meet-solve R C q ws ss u l r none (either-none _ _ (differ 7) (differ 8)) (differ 9)
 
-        pub meets-left : x .tag ≡ 9 → MeetsAs ws l r (Solve l r)
+        pub meets-left : x .tag ≡ HA → MeetsAs ws l r (Solve l r)
         meets-left t =
             let l₁ = left-is 9 t in
             record { run = λ R C q ss u. solves R C q ss u ∙ ap (λ (o : Out ℕ). o >>= finish q) (solve-left R C q ws ss u l r (has-is ws l 9 l₁)); fact = (l₁, in-order refl refl) }
 
-        pub meets-right : (x .tag ≡ 9 → ⊥) → y .tag ≡ 9 → MeetsAs ws l r (Solve r l)
+        pub meets-right : (x .tag ≡ HA → ⊥) → y .tag ≡ HA → MeetsAs ws l r (Solve r l)
         meets-right t k =
             let r₁ = right-is 9 k in
             record {
@@ -250,7 +250,7 @@ module _ (ws : List ℕ) (l r : ℕ) (h : Terms ws l r) (x y : Record) (ex : IsR
               fact = (r₁, turned refl refl);
             }
 
-        pub meets-clash : (x .tag ≡ 9 → ⊥) → (y .tag ≡ 9 → ⊥) → MeetsAs ws l r Clash
+        pub meets-clash : (x .tag ≡ HA → ⊥) → (y .tag ≡ HA → ⊥) → MeetsAs ws l r Clash
         meets-clash t k =
             record {
               run = λ R C q ss u.

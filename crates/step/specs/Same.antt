@@ -13,7 +13,7 @@ use Rattle.places.specs.declared.Map.{Map}
 use Rattle.queue.specs.declared.Ring.{Ring}
 use Rattle.step.specs.declared.Step.{Step}
 use Rattle.step.specs.declared.Step.the-variants.{Done}
-use Rattle.rules.specs.Words.{tag, fieldA, fieldB, elements, arguments, variables}
+use Rattle.rules.specs.Words.{tag, fieldA, fieldB, elements, arguments, variables, HA}
 use Rattle.rules.specs.Map.{sources}
 use Rattle.rules.specs.Walk.{narrow}
 use Rattle.rules.specs.Machine.{agreeing, sameHole}
@@ -55,8 +55,8 @@ pub record SameReady (R n : ℕ) (ws ss : List ℕ) (used l r : ℕ) : Type 0 wh
   pub fine : Fine R n home (store ws ss used)
   pub left : Sub ws home 0 used l
   pub right : Sub ws home 0 used r
-  pub nine-left : tag ws l ≡ 9
-  pub nine-right : tag ws r ≡ 9
+  pub nine-left : tag ws l ≡ HA
+  pub nine-right : tag ws r ≡ HA
   pub many : length (elements ws (fieldB ws l)) ≡ length (elements ws (fieldB ws r))
   pub arity : length (elements ws (fieldA ws (fieldA ws l))) ≡ length (elements ws (fieldB ws l))
 

@@ -11,7 +11,7 @@ use Rattle.step.specs.declared.Step.{Step}
 use Rattle.step.specs.declared.Step.the-variants.{On, Failed as Fell}
 use Rattle.step.specs.declared.Meeting.{Meeting}
 use Rattle.step.specs.declared.Meeting.the-variants.{Bodies, Arguments, SameHole, Solve, Clash}
-use Rattle.rules.specs.Words.{tag, arguments, variables}
+use Rattle.rules.specs.Words.{tag, arguments, variables, HA}
 use Rattle.rules.specs.Store.{fail}
 use Rattle.rules.specs.Walk.{assign}
 use Rattle.rules.specs.Machine.{meet}
@@ -111,7 +111,7 @@ module _ (R n : ℕ) (ws ss : List ℕ) (used : ℕ) (q : List ℕ) (cap : ℕ) 
     pub stood-solve : (a b : ℕ) → k ≡ Solve a b → Assigning R n ws ss used a b
     stood-solve a b e = let f : FactOf ws l r (Solve a b) = known (Solve a b) e in go (f .0) (f .1)
       where
-        go : tag ws a ≡ 9 → Sides l r a b → Assigning R n ws ss used a b
+        go : tag ws a ≡ HA → Sides l r a b → Assigning R n ws ss used a b
         go t (in-order p o) =
             rw (p, o) (record { home = h .home; fine = fine; left = left; occ = rw p at t; right = right; scope = _; known = side-walks (known-right (h .known)) })
         go t (turned p o) =

@@ -12,7 +12,7 @@ use Rattle.table.specs.declared.Record.{Record}
 use Rattle.table.specs.Reading.{IsRecord}
 use Rattle.places.specs.declared.Map.{Map}
 use Rattle.rules.specs.Lists.{enough}
-use Rattle.rules.specs.Words.{NONE, tag, fieldA, arguments, variables}
+use Rattle.rules.specs.Words.{NONE, tag, fieldA, arguments, variables, HA}
 use Rattle.rules.specs.Store.{Store, Out, goes, settle, _>>=_}
 use Rattle.rules.specs.Map.{toPositions}
 use Rattle.rules.specs.Walk.{walk, assign}
@@ -32,7 +32,7 @@ pub record Assigning (R n : ℕ) (ws ss : List ℕ) (used l r : ℕ) : Type 0 wh
   pub home : ℕ → ℕ
   pub fine : Fine R n home (store ws ss used)
   pub left : Sub ws home 0 used l
-  pub occ : tag ws l ≡ 9
+  pub occ : tag ws l ≡ HA
   pub right : Sub ws home 0 used r
   pub scope : ℕ
   pub known : WalkKnown R (store ws ss used) scope 0 r

@@ -11,7 +11,7 @@ use Rattle.store.specs.declared.Walked.{Walked}
 use Rattle.table.specs.declared.Record.{Record}
 use Rattle.table.specs.Reading.{IsRecord}
 use Rattle.places.specs.declared.Map.{Map}
-use Rattle.rules.specs.Words.{NONE}
+use Rattle.rules.specs.Words.{NONE, HA}
 use Rattle.rules.specs.Store.{push}
 use Rattle.laws.specs.Lists.{size}
 use Rattle.invariants.specs.Rise.{reach}
@@ -40,7 +40,7 @@ module _ {R n u : ℕ} {m : Map} {ws ss : List ℕ} {used F d r : ℕ} where
   term-since h = h .at .fine .since
 
   module _ (w : Record) (e : IsRecord ws r w) where
-    pub body-rigid : ReadyBody R n u m ws ss used F d r → (s : Found) (v : ℕ) → (w .tag ≡ 9 → ⊥) → headOf (mapAt F m) d w ≡ s → s ≡ At v → Rigid R n u m ws ss used F d r w v
+    pub body-rigid : ReadyBody R n u m ws ss used F d r → (s : Found) (v : ℕ) → (w .tag ≡ HA → ⊥) → headOf (mapAt F m) d w ≡ s → s ≡ At v → Rigid R n u m ws ss used F d r w v
     body-rigid h s v ne p q = record { on = h .on; is = e; head = headed w s v e (λ t. h .plain (sym (e .tag-is) ∙ t)) ne (h .on) p q }
 
   module _ {w : Record} {v : ℕ} (h : Rigid R n u m ws ss used F d r w v) where

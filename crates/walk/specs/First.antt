@@ -8,7 +8,7 @@ use Rattle.store.specs.declared.Walked.{Walked}
 use Rattle.table.specs.declared.Record.{Record}
 use Rattle.table.specs.Reading.{IsRecord}
 use Rattle.places.specs.declared.Map.{Map}
-use Rattle.rules.specs.Words.{NONE, elements}
+use Rattle.rules.specs.Words.{NONE, elements, CE}
 use Rattle.laws.specs.Lists.{size, elements-none}
 use Rattle.invariants.specs.Rise.{reach}
 use Rattle.store.specs.Said.{Then, under}
@@ -39,7 +39,7 @@ module _ {R n u : ℕ} {m : Map} {ws ss : List ℕ} {used F d l : ℕ} (h : Read
     pub fall-only : (t : ℕ) → 3 * reach R F (size l) ≡ t → 3 * reach R F (suc (w .a)) + 1 < t
     fall-only t z = let a = list-cell (h .list .at) (h .some) w e .lower .0 in omega arith
 
-    pub only-walked : (ws₁ ss₁ : List ℕ) (x : Walked) (ws₂ : List ℕ) (y : Walked) → w .b ≡ NONE → WalksTerm R n u m ws ss used F d (w .a) ws₁ ss₁ x → Then n (under R 5 NONE) ws₁ x ws₂ y
+    pub only-walked : (ws₁ ss₁ : List ℕ) (x : Walked) (ws₂ : List ℕ) (y : Walked) → w .b ≡ NONE → WalksTerm R n u m ws ss used F d (w .a) ws₁ ss₁ x → Then n (under R CE NONE) ws₁ x ws₂ y
         → WalksList R n u m ws ss used F d l ws₂ ss₁ y
     only-walked ws₁ ss₁ x ws₂ y z p q =
         let is : elements ws l ≡ w .a ∷ [] = rw (list-cell (h .list .at) (h .some) w e .list, elements-none ws (w .b) z) in

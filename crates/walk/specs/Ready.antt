@@ -16,7 +16,7 @@ use Rattle.store.specs.declared.Walked.{Walked}
 use Rattle.table.specs.declared.Record.{Record}
 use Rattle.table.specs.Reading.{IsRecord}
 use Rattle.places.specs.declared.Map.{Map}
-use Rattle.rules.specs.Words.{NONE, tag, fieldA, fieldB, elements, arguments, variables}
+use Rattle.rules.specs.Words.{NONE, tag, fieldA, fieldB, elements, arguments, variables, LA, VA, HA}
 use Rattle.rules.specs.Store.{pushOccurrence}
 use Rattle.laws.specs.Lists.{size}
 use Rattle.invariants.specs.Floor.{limit}
@@ -81,7 +81,7 @@ pub record ReadyTerm (R n u : ℕ) (m : Map) (ws ss : List ℕ) (used F d r : �
 -- a term that is no lambda
 pub record ReadyBody (R n u : ℕ) (m : Map) (ws ss : List ℕ) (used F d r : ℕ) : Type 0 where
   pub on : ReadyTerm R n u m ws ss used F d r
-  pub plain : tag ws r ≡ 6 → ⊥
+  pub plain : tag ws r ≡ LA → ⊥
 
 -- a list
 pub record ReadyList (R n u : ℕ) (m : Map) (ws ss : List ℕ) (used F d l : ℕ) : Type 0 where
@@ -99,7 +99,7 @@ pub record ReadyArgs (R n u : ℕ) (m : Map) (ws ss : List ℕ) (used F d l : �
 -- an occurrence
 pub record ReadyHole (R n u : ℕ) (m : Map) (ws ss : List ℕ) (used F d r : ℕ) : Type 0 where
   pub on : ReadyTerm R n u m ws ss used F d r
-  pub occ : tag ws r ≡ 9
+  pub occ : tag ws r ≡ HA
 
 -- at an occurrence w of a solved hole: the map that follows its arguments, the solution t, the floor G there
 pub record Hopping (R n u : ℕ) (m : Map) (ws ss : List ℕ) (used F d r : ℕ) (w : Record) (next : Map) (t G : ℕ) : Type 0 where
@@ -142,16 +142,16 @@ module _ {R n u : ℕ} {m : Map} {ws ss : List ℕ} {used F d r : ℕ} where
   inside h v lt = record { within = λ z. let k = h .within (eqb-false F 0 z) in omega arith }
 
   -- the body of a lambda
-  pub to-body : (w : Record) → IsRecord ws r w → w .tag ≡ 6 → ReadyTerm R n u m ws ss used F d r → ReadyTerm R n u m ws ss used F (d + 1) (w .a)
+  pub to-body : (w : Record) → IsRecord ws r w → w .tag ≡ LA → ReadyTerm R n u m ws ss used F d r → ReadyTerm R n u m ws ss used F (d + 1) (w .a)
   to-body w e k h =
       let l = at-less (h .at) w e k in
       record { home = h .home; scope = h .scope; at = at-body (h .at) w e k; on = on-part used (d + 1) (suc (w .a)) (h .on) (omega arith) (omega arith); within = h .within }
 
   -- a rigid head
-  pub in-scope : (w : Record) → IsRecord ws r w → ReadyTerm R n u m ws ss used F d r → w .tag ≡ 8 → Within (eqb F 0) m d (w .a)
+  pub in-scope : (w : Record) → IsRecord ws r w → ReadyTerm R n u m ws ss used F d r → w .tag ≡ VA → Within (eqb F 0) m d (w .a)
   in-scope w e h t = inside h (w .a) (at-variable (h .at) w e t)
 
-  pub headed : (w : Record) (s : Found) (v : ℕ) → IsRecord ws r w → (w .tag ≡ 6 → ⊥) → (w .tag ≡ 9 → ⊥) → ReadyTerm R n u m ws ss used F d r → headOf (mapAt F m) d w ≡ s → s ≡ At v → Headed (mapAt F m) d w v
+  pub headed : (w : Record) (s : Found) (v : ℕ) → IsRecord ws r w → (w .tag ≡ LA → ⊥) → (w .tag ≡ HA → ⊥) → ReadyTerm R n u m ws ss used F d r → headOf (mapAt F m) d w ≡ s → s ≡ At v → Headed (mapAt F m) d w v
   headed w s v e a b h p q = let lo = h .at .is .term .low in let hi = h .at .is .term .high in let z = e .tag-is in head-at _ _ _ s p v (omega arith) (omega arith) q
 
   module _ (w : Record) (v : ℕ) (e : IsRecord ws r w) (g : Headed (mapAt F m) d w v) (h : ReadyTerm R n u m ws ss used F d r) where
@@ -173,10 +173,10 @@ module _ {R n u : ℕ} {m : Map} {ws ss : List ℕ} {used F d r : ℕ} where
     walked-rigid ws₁ ss₁ x ws₂ y p q = writes-rigid (unrolls R u) R n F (mapAt F m) d r ws ss used w e v ws₁ ss₁ x ws₂ y g args-size p q
 
   -- an occurrence
-  pub to-hole : (w : Record) → IsRecord ws r w → w .tag ≡ 9 → ReadyTerm R n u m ws ss used F d r → ReadyHole R n u m ws ss used F d r
+  pub to-hole : (w : Record) → IsRecord ws r w → w .tag ≡ HA → ReadyTerm R n u m ws ss used F d r → ReadyHole R n u m ws ss used F d r
   to-hole w e t h = record { on = h; occ = sym (e .tag-is) ∙ t }
 
-  pub walked-hole : (w : Record) (ws₁ ss₁ : List ℕ) (x : Walked) → IsRecord ws r w → w .tag ≡ 9 → WalksHole R n u m ws ss used F d r ws₁ ss₁ x → WalksTerm R n u m ws ss used F d r ws₁ ss₁ x
+  pub walked-hole : (w : Record) (ws₁ ss₁ : List ℕ) (x : Walked) → IsRecord ws r w → w .tag ≡ HA → WalksHole R n u m ws ss used F d r ws₁ ss₁ x → WalksTerm R n u m ws ss used F d r ws₁ ss₁ x
   walked-hole w ws₁ ss₁ x e t p = walk-hole R n u m ws ss used F d r ws₁ ss₁ x (sym (e .tag-is) ∙ t) p
 
   -- in a copy every argument has a place

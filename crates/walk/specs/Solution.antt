@@ -9,7 +9,7 @@ use Rattle.store.specs.declared.Walked.{Walked}
 use Rattle.places.specs.declared.Map.{Map}
 use Rattle.table.specs.declared.Record.{Record}
 use Rattle.table.specs.Reading.{IsRecord}
-use Rattle.rules.specs.Words.{NONE, tag, fieldB, elements, arguments, variables}
+use Rattle.rules.specs.Words.{NONE, tag, fieldB, elements, arguments, variables, HA}
 use Rattle.rules.specs.Map.{toVariables}
 use Rattle.rules.specs.Rewrite.{copy}
 use Rattle.invariants.specs.Floor.{All, Sub, Fine, limit}
@@ -33,7 +33,7 @@ pub record Copying (R n : ℕ) (ws ss : List ℕ) (used r t : ℕ) : Type 0 wher
   pub home : ℕ → ℕ
   pub fine : Fine R n home (store ws ss used)
   pub at : Sub ws home 0 used r
-  pub nine : tag ws r ≡ 9
+  pub nine : tag ws r ≡ HA
   pub is : Sub ws home 1 used t
   pub known : WalkKnown R (store ws ss used) (length (variables ws r)) 0 t
 

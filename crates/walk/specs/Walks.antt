@@ -16,7 +16,7 @@ use Rattle.store.specs.declared.Walked.the-variants.{Failed}
 use Rattle.table.specs.declared.Record.{Record}
 use Rattle.table.specs.Reading.{IsRecord}
 use Rattle.places.specs.declared.Map.{Map}
-use Rattle.rules.specs.Words.{NONE, tag, fieldA, fieldB, elements, arguments, variables}
+use Rattle.rules.specs.Words.{NONE, tag, fieldA, fieldB, elements, arguments, variables, CE, HA}
 use Rattle.rules.specs.Store.{Store, Out, _>>=_, fail, push, pushOccurrence, solved, solution}
 use Rattle.rules.specs.Map.{Map as Pairs, follow}
 use Rattle.rules.specs.Rewrite.{Writer, writeAll, writeTerm, keepHole, copy}
@@ -96,12 +96,12 @@ module _ (R n u : ℕ) (m : Map) (ws ss : List ℕ) (used F d r : ℕ) where
         let z = head-nowhere (mapAt F m) d w s p q in
         record { run = gives-level (unrolls R u) R n F (mapAt F m) d r ws ss used _ λ k hk. level-escape (onHole R u k) (writer R u k) R ws (mapAt F m) d r (store ws ss used) w e (z .0) (z .1); grown = since-failed _ _ }
 
-  pub walk-hole : (ws₁ ss₁ : List ℕ) (x : Walked) → tag ws r ≡ 9 → WalksHole R n u m ws ss used F d r ws₁ ss₁ x → WalksTerm R n u m ws ss used F d r ws₁ ss₁ x
+  pub walk-hole : (ws₁ ss₁ : List ℕ) (x : Walked) → tag ws r ≡ HA → WalksHole R n u m ws ss used F d r ws₁ ss₁ x → WalksTerm R n u m ws ss used F d r ws₁ ss₁ x
   walk-hole ws₁ ss₁ x t h = writes-hole (unrolls R u) R n F (mapAt F m) d r ws ss used ws₁ ss₁ x t (h .grown) λ k hk. h .run k (omega arith)
 
   -- an only argument is written, and then its cell
   pub walk-only : (l : ℕ) (ws₁ ss₁ : List ℕ) (x : Walked) (ws₂ : List ℕ) (y : Walked) → elements ws l ≡ r ∷ [] → suc r < size l → WalksTerm R n u m ws ss used F d r ws₁ ss₁ x
-      → Then n (under R 5 NONE) ws₁ x ws₂ y → WalksList R n u m ws ss used F d l ws₂ ss₁ y
+      → Then n (under R CE NONE) ws₁ x ws₂ y → WalksList R n u m ws ss used F d l ws₂ ss₁ y
   unfolding writeAll _>>=_
   walk-only l ws₁ ss₁ x ws₂ y el lt h p = record { run = λ f hf. rw (el, h .run f (omega arith)) (p .run ss₁); grown = p .grown }
 
