@@ -52,6 +52,9 @@ module _ (Held : ℕ → Type 0) (so : ℕ → ℕ → Bool) (ws st₀ : List �
         let few = p .few in
         record { says = e ∙ sym (p .same); keeps = p .keeps; lowest = λ t. omega arith }
 
+    pub stack-holds : d ≤ length st
+    stack-holds = let room = p .asks .room in let long = p .same-length in omega arith
+
     module _ (z : list ≡ NONE → ⊥) where
       pub cell-inside : 4 * list + 3 < length ws
       cell-inside = term-cell ws list (p .left) z .inside

@@ -27,6 +27,9 @@ whole ws = take (length ws - 0) ws
 all : (ws : List ℕ) → whole ws ≡ ws
 all ws = take-all (length ws - 0) ws (omega arith)
 
+pub type-lent : (ws : List ℕ) (ty : ℕ) → TypeAt ws ty → TypeAt (whole ws) ty
+type-lent ws ty p = rw (all ws) p
+
 module _ (ws : List ℕ) (ty : ℕ) (p : TypeAt ws ty) where
   final-arrow : tag ws ty ≡ AR → finalType enough ws ty ≡ finalType enough ws (fieldB ws ty)
   unfolding has
@@ -88,15 +91,15 @@ module _ (ws : List ℕ) (ty : ℕ) (p : TypeAt ws ty) (x : Record) (j : IsRecor
     final-one z = final-more ws ty p x j e _ (final-here ws (x .b) (result-type ws ty p x j e) y k z)
 
     module _ (d : y .tag ≡ AR) where
-      pub second-less : y .b < ty
-      second-less = let a = result-less ws ty p x j e in let b = result-less ws (x .b) (result-type ws ty p x j e) y k d in omega arith
+      pub second-less : (n : ℕ) → ty ≡ n → y .b < n
+      second-less n is = let a = result-less ws ty p x j e in let b = result-less ws (x .b) (result-type ws ty p x j e) y k d in omega arith
 
-      pub second-type : TypeAt (whole ws) (y .b)
-      second-type = rw (all ws) (result-type ws (x .b) (result-type ws ty p x j e) y k d)
+      pub second-type : TypeAt ws (y .b)
+      second-type = result-type ws (x .b) (result-type ws ty p x j e) y k d
 
       module _ (f : Final) (i : IsFinal (whole ws) (y .b) f) where
         pub final-room : f .count < 4096
-        final-room = let few = i .few in let lo = second-less in let top = placed-few _ ws ty p in omega arith
+        final-room = let few = i .few in let lo = second-less ty refl in let top = placed-few _ ws ty p in omega arith
 
         pub final-two : IsFinal ws ty (record { base = f .base; count = f .count + 2 })
         final-two =

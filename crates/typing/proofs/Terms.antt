@@ -44,15 +44,6 @@ pub record InHand (ws st₀ : List ℕ) (low₀ d₀ r ty : ℕ) (st : List ℕ)
   pub same : checks enough ws (binders st₀ d₀) r ty ≡ checks enough ws (binders st d) term at
   pub lowest : min low₀ (offence enough ws r) ≡ min low (offence enough ws term)
 
--- the term in hand has a rigid head, x, of type h
-pub record Headed (ws st₀ : List ℕ) (low₀ d₀ r ty : ℕ) (st : List ℕ) (low d at term : ℕ) (x : Record) (h : ℕ) : Type 0 where
-  pub hand : InHand ws st₀ low₀ d₀ r ty st low d at term
-  pub type : TypeAt ws h
-  pub asks : ArgsAsk (TypeAt ws) ws st low d (x .b) h
-  pub less : size (x .b) < term + 1
-  pub check : checkTerm (checks enough ws) ws (binders st d) term at ≡ both (eqb (finalType enough ws h) at) (takes ws (binders st d) (x .b) h)
-  pub offends : offence enough ws term ≡ among-terms ws (x .b)
-
 pub hand-first : (ws st : List ℕ) (low d r ty : ℕ) → TermAsks ws st low d r ty → InHand ws st low d r ty st low d ty r
 hand-first ws st low d r ty a = record { asks = a; same-length = refl; lower = omega arith; keeps = λ e q. q; same = refl; lowest = refl }
 
@@ -64,6 +55,14 @@ module _ {ws st₀ : List ℕ} {low₀ d₀ r ty : ℕ} {st : List ℕ} {low d a
   -- what the term in hand is checked for
   abbrev here : Bool
   here = checkTerm (checks enough ws) ws (binders st d) term at
+
+  -- the term in hand has a rigid head, x, of type h
+  pub record Headed (x : Record) (h : ℕ) : Type 0 where
+    pub type : TypeAt ws h
+    pub asks : ArgsAsk (TypeAt ws) ws st low d (x .b) h
+    pub less : size (x .b) < term + 1
+    pub check : here ≡ both (eqb (finalType enough ws h) at) (takes ws (binders st d) (x .b) h)
+    pub offends : offence enough ws term ≡ among-terms ws (x .b)
 
   one : checks enough ws (binders st₀ d₀) r ty ≡ here
   one = let t = p .asks .term in p .same ∙ checks-unrolled ws (t .top) (t .legal) (binders st d) term at (t .low) (t .kind)
@@ -90,6 +89,9 @@ module _ {ws st₀ : List ℕ} {low₀ d₀ r ty : ℕ} {st : List ℕ} {low d a
 
   pub room-left : d < length st
   room-left = let room = p .asks .room in omega arith
+
+  pub stack-holds : d ≤ length st
+  stack-holds = let room = room-left in omega arith
 
   pub hole-less : (k : ℕ) → 2 * r + 2 ≡ k → 2 * term + 1 < k
   hole-less k h = let low = p .lower in omega arith
@@ -214,14 +216,14 @@ module _ {ws st₀ : List ℕ} {low₀ d₀ r ty : ℕ} {st : List ℕ} {low d a
             go (inr e) = let w : _≡_ {A = ℕ} 0 1 = cc (constant-type e) in absurd (omega arith)
 
         module _ {h : ℕ} (n : f ≡ At h) where
-          pub headed : Headed ws st₀ low₀ d₀ r ty st low d at term x h
+          pub headed : Headed x h
           unfolding applied takes arguments both
           headed = go rigid
             where
-              made : TypeAt ws h → here ≡ both (eqb (finalType enough ws h) at) (takes ws (binders st d) (x .b) h) → Headed ws st₀ low₀ d₀ r ty st low d at term x h
-              made t c = record { hand = p; type = t; asks = arguments-ask z (TypeAt ws) h low t (omega arith); less = list-less z; check = c; offends = rigid-offence }
+              made : TypeAt ws h → here ≡ both (eqb (finalType enough ws h) at) (takes ws (binders st d) (x .b) h) → Headed x h
+              made t c = record { type = t; asks = arguments-ask z (TypeAt ws) h low t (omega arith); less = list-less z; check = c; offends = rigid-offence }
 
-              go : (tag ws term ≡ VA) ⊎ (tag ws term ≡ CA) → Headed ws st₀ low₀ d₀ r ty st low d at term x h
+              go : (tag ws term ≡ VA) ⊎ (tag ws term ≡ CA) → Headed x h
               go (inl e) =
                   let found = type-found (binders st d) (x .a) h (variable-type e ∙ sym q ∙ n) in
                   made
@@ -235,58 +237,69 @@ module _ {ws st₀ : List ℕ} {low₀ d₀ r ty : ℕ} {st : List ℕ} {low d a
 
 -- What a rigid head's final type decides
 
-module _ {ws st₀ : List ℕ} {low₀ d₀ r ty : ℕ} {st : List ℕ} {low d at term : ℕ} {x : Record} {h : ℕ} (g : Headed ws st₀ low₀ d₀ r ty st low d at term x h) where
-  pub head-type : TypeAt ws h
-  head-type = g .type
-
-  pub arguments-less : (k : ℕ) → 2 * r + 2 ≡ k → 2 * size (x .b) < k
-  arguments-less k e = let s = g .less in let low = g .hand .lower in omega arith
+module _ {ws st₀ : List ℕ} {low₀ d₀ r ty : ℕ} {st : List ℕ} {low d at term : ℕ} {p : InHand ws st₀ low₀ d₀ r ty st low d at term} {x : Record} {h : ℕ} (g : Headed p x h) where
+  -- its final type is the type asked of the term in hand, and it asks an argument; k is the measure of the check
+  pub record Asking (k : ℕ) (f : Final) : Type 0 where
+    pub final : IsFinal ws h f
+    pub base : f .base ≡ at
+    pub some : f .count ≡ 0 → ⊥
+    pub measure : 2 * r + 2 ≡ k
 
   module _ {f : Final} (i : IsFinal ws h f) where
-    pub other-base : (f .base ≡ at → ⊥) → Tells (g .hand) st low false
+    pub other-base : (f .base ≡ at → ⊥) → Tells p st low false
     unfolding both
-    other-base z = refuses (g .hand) (g .check ∙ rw (← i .base-is, ne-eqb _ _ z))
+    other-base z = refuses p (g .check ∙ rw (← i .base-is, ne-eqb _ _ z))
 
     module _ (b : f .base ≡ at) where
-      taking : checkTerm (checks enough ws) ws (binders st d) term at ≡ takes ws (binders st d) (x .b) h
+      taking : here p ≡ takes ws (binders st d) (x .b) h
       unfolding both
       taking = g .check ∙ rw (← i .base-is, eq-eqb _ _ b)
 
-      pub none-asked : f .count ≡ 0 → Tells (g .hand) st low (eqb (x .b) NONE)
+      pub none-asked : f .count ≡ 0 → Tells p st low (eqb (x .b) NONE)
       none-asked z = go (ℕ-discrete (x .b) NONE)
         where
           few : low ≤ NONE
-          few = g .hand .asks .few
+          few = p .asks .few
 
-          go : Dec (x .b ≡ NONE) → Tells (g .hand) st low (eqb (x .b) NONE)
+          go : Dec (x .b ≡ NONE) → Tells p st low (eqb (x .b) NONE)
           go (yes e) =
               let none = among-end ws (x .b) e in
               rw (eq-eqb _ _ e)
-              (answers (g .hand) true true (among-terms ws (x .b)) low st (taking ∙ rw (takes-none ws (binders st d) (x .b) h e, ← i .count-is, eq-eqb _ _ z)) (g .offends)
+              (answers p true true (among-terms ws (x .b)) low st (taking ∙ rw (takes-none ws (binders st d) (x .b) h e, ← i .count-is, eq-eqb _ _ z)) (g .offends)
               (record { says = refl; keeps = refl; lowest = λ t. omega arith }))
-          go (no e) = rw (ne-eqb _ _ e) (refuses (g .hand) (taking ∙ takes-more ws (binders st d) (x .b) h (g .asks .list) e (sym (i .count-is) ∙ z)))
+          go (no e) = rw (ne-eqb _ _ e) (refuses p (taking ∙ takes-more ws (binders st d) (x .b) h (g .asks .list) e (sym (i .count-is) ∙ z)))
 
-      module _ (z : f .count ≡ 0 → ⊥) where
-        pub none-given : x .b ≡ NONE → Tells (g .hand) st low false
-        none-given e = refuses (g .hand) (taking ∙ rw (takes-none ws (binders st d) (x .b) h e, ← i .count-is, ne-eqb _ _ z))
+module _ {ws st₀ : List ℕ} {low₀ d₀ r ty : ℕ} {st : List ℕ} {low d at term : ℕ} {p : InHand ws st₀ low₀ d₀ r ty st low d at term} {x : Record} {h : ℕ} {g : Headed p x h} {k : ℕ} {f : Final} (a : Asking g k f) where
+  takes-list : here p ≡ takes ws (binders st d) (x .b) h
+  takes-list = taking g (a .final) (a .base)
 
-        pub list-asks : (x .b ≡ NONE → ⊥) → ListAsks ws st low d (x .b) h (f .count)
-        list-asks e = record { asks = g .asks; some = e; counted = i .count-is; more = z }
+  pub none-given : x .b ≡ NONE → Tells p st low false
+  none-given e = refuses p (takes-list ∙ rw (takes-none ws (binders st d) (x .b) h e, ← a .final .count-is, ne-eqb _ _ (a .some)))
 
-        module _ (st₁ : List ℕ) (low₁ : ℕ) (o : Checked) (v : Leaves ws st low d (x .b) h st₁ low₁ o) where
-          pub list-fails : o ≡ Fails → Tells (g .hand) st₁ low₁ false
-          unfolding Leaves
-          list-fails e =
-              let w : Leaves ws st low d (x .b) h st₁ low₁ Fails = rw e at v in
-              record { says = sym (one (g .hand) ∙ taking ∙ w .0); keeps = g .hand .keeps st₁ (w .1); lowest = λ t. absurd (false-true t) }
+  pub stack-long : length st ≡ length st₀
+  stack-long = p .same-length
 
-          module _ {t u : ℕ} (e : o ≡ ButLast t u) where
-            left : Remains ws st low d (x .b) h st₁ low₁ t u
-            unfolding Leaves
-            left = rw e at v
+  pub list-asks : (x .b ≡ NONE → ⊥) → ListAsks ws st low d (x .b) h (f .count)
+  list-asks e = record { asks = g .asks; some = e; counted = a .final .count-is; more = a .some }
 
-            pub last-less : t < term
-            last-less = let s = g .less in let l = left .lower in omega arith
+  pub arguments-less : 2 * size (x .b) < k
+  arguments-less = let s = g .less in let low = p .lower in let m = a .measure in omega arith
 
-            pub last-next : length st₁ ≡ length st → InHand ws st₀ low₀ d₀ r ty st₁ low₁ d u t
-            last-next k = goes-on (g .hand) st₁ low₁ d u t (left .asks) k last-less (λ s w. w ∙ left .keeps) (taking ∙ left .same) (rw (g .offends) (left .lowest))
+  module _ (st₁ : List ℕ) (low₁ : ℕ) (o : Checked) (v : Leaves ws st low d (x .b) h st₁ low₁ o) where
+    pub list-fails : o ≡ Fails → Tells p st₁ low₁ false
+    unfolding Leaves
+    list-fails e =
+        let w : Leaves ws st low d (x .b) h st₁ low₁ Fails = rw e at v in
+        record { says = sym (one p ∙ takes-list ∙ w .0); keeps = p .keeps st₁ (w .1); lowest = λ t. absurd (false-true t) }
+
+    module _ {t u : ℕ} (e : o ≡ ButLast t u) where
+      left : Remains ws st low d (x .b) h st₁ low₁ t u
+      unfolding Leaves
+      left = rw e at v
+
+      pub last-less : t < term
+      last-less = let s = g .less in let l = left .lower in omega arith
+
+      pub last-next : length st₁ ≡ length st → InHand ws st₀ low₀ d₀ r ty st₁ low₁ d u t
+      last-next k =
+          goes-on p st₁ low₁ d u t (left .asks) k last-less (λ s w. w ∙ left .keeps) (takes-list ∙ left .same) (rw (g .offends) (left .lowest))

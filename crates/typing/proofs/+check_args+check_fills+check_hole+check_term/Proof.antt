@@ -8,8 +8,14 @@ use Rattle.laws.specs.Lists.{size}
 use Rattle.laws.specs.Places.{TypeAt, ListAt}
 use Rattle.typing.specs.Stack.{binders}
 use Rattle.typing.specs.Asks.{filled}
-use Rattle.typing.proofs.Arguments.{Passed, passed-none, cell-inside, element-inside, rest-less, element-less, element-asks, Counting, counting-first, head-inside as type-of-head-inside, list-inside, left-some, too-many, too-short, last-remains, argument-asks, argument-less, cells-less, argument-fails, argument-checks, context-ends, context-short, context-inside, context-type, bare-fills, filling-fails, filling-checks}
-use Rattle.typing.proofs.Terms.{InHand, hand-first, answered, term-inside, room-left, hole-less, tagged, body-less, no-arrow, body-next, arguments-less, hole-inside, hole-list, fills-less, other-type, hole-asks, hole-told, head-inside, head-free, Headed, headed, head-type, other-base, none-asked, none-given, list-asks, list-fails, last-less, last-next}
+use Rattle.typing.proofs.Arguments.{Passed, passed-none, cell-inside, element-inside, stack-holds as list-stack-holds, rest-less, element-less, element-asks}
+use Rattle.typing.proofs.Arguments.{Counting, counting-first, head-inside as type-of-head-inside, list-inside, left-some, too-many, too-short, last-remains}
+use Rattle.typing.proofs.Arguments.{argument-asks, argument-less, cells-less, argument-fails, argument-checks}
+use Rattle.typing.proofs.Arguments.{context-ends, context-short, context-inside, context-type, bare-fills, filling-fails, filling-checks}
+use Rattle.typing.proofs.Terms.{InHand, hand-first, answered, term-inside, room-left, stack-holds, hole-less, tagged, body-less, no-arrow, body-next}
+use Rattle.typing.proofs.Terms.{hole-inside, hole-list, fills-less, other-type, hole-asks, hole-told}
+use Rattle.typing.proofs.Terms.{head-inside, head-free, Headed, headed, other-base, none-asked}
+use Rattle.typing.proofs.Terms.{Asking, stack-long, none-given, list-asks, arguments-less, list-fails, last-less, last-next}
 use borrow.Fn.Kinds.{In}
 use borrow.Fn.PlainCycle.{Measures, is, falls, and}
 use Rattle.typing.proofs.check_args.Reads as check-args
@@ -46,48 +52,37 @@ abbrev μ-check-term : Measures 3 check-term-kinds.ps ℕ
 μ-check-term κs a = 2 * (a .1 .1 .1 .1 .0) + 2
 
 abbrev check-args-at : ℕ → In 3 check-args-kinds.ps
-check-args-at t =
-    and 3 check-args-kinds.ps (is 3 check-args-kinds.ps μ-check-args t) check-args.Pre
+check-args-at t = and 3 check-args-kinds.ps (is 3 check-args-kinds.ps μ-check-args t) check-args.Pre
 
 abbrev check-args-below : ℕ → In 3 check-args-kinds.ps
-check-args-below t =
-    and 3 check-args-kinds.ps (falls 3 check-args-kinds.ps _<_ μ-check-args t) check-args.Pre
+check-args-below t = and 3 check-args-kinds.ps (falls 3 check-args-kinds.ps _<_ μ-check-args t) check-args.Pre
 
 abbrev check-fills-at : ℕ → In 3 check-fills-kinds.ps
-check-fills-at t =
-    and 3 check-fills-kinds.ps (is 3 check-fills-kinds.ps μ-check-fills t) check-fills.Pre
+check-fills-at t = and 3 check-fills-kinds.ps (is 3 check-fills-kinds.ps μ-check-fills t) check-fills.Pre
 
 abbrev check-fills-below : ℕ → In 3 check-fills-kinds.ps
-check-fills-below t =
-    and 3 check-fills-kinds.ps (falls 3 check-fills-kinds.ps _<_ μ-check-fills t) check-fills.Pre
+check-fills-below t = and 3 check-fills-kinds.ps (falls 3 check-fills-kinds.ps _<_ μ-check-fills t) check-fills.Pre
 
 abbrev check-hole-at : ℕ → In 3 check-hole-kinds.ps
-check-hole-at t =
-    and 3 check-hole-kinds.ps (is 3 check-hole-kinds.ps μ-check-hole t) check-hole.Pre
+check-hole-at t = and 3 check-hole-kinds.ps (is 3 check-hole-kinds.ps μ-check-hole t) check-hole.Pre
 
 abbrev check-hole-below : ℕ → In 3 check-hole-kinds.ps
-check-hole-below t =
-    and 3 check-hole-kinds.ps (falls 3 check-hole-kinds.ps _<_ μ-check-hole t) check-hole.Pre
+check-hole-below t = and 3 check-hole-kinds.ps (falls 3 check-hole-kinds.ps _<_ μ-check-hole t) check-hole.Pre
 
 abbrev check-term-at : ℕ → In 3 check-term-kinds.ps
-check-term-at t =
-    and 3 check-term-kinds.ps (is 3 check-term-kinds.ps μ-check-term t) check-term.Pre
+check-term-at t = and 3 check-term-kinds.ps (is 3 check-term-kinds.ps μ-check-term t) check-term.Pre
 
 abbrev check-term-below : ℕ → In 3 check-term-kinds.ps
-check-term-below t =
-    and 3 check-term-kinds.ps (falls 3 check-term-kinds.ps _<_ μ-check-term t) check-term.Pre
+check-term-below t = and 3 check-term-kinds.ps (falls 3 check-term-kinds.ps _<_ μ-check-term t) check-term.Pre
 
 abbrev check-args-calls : ℕ → check-args-lts.Claims
-check-args-calls t =
-    (read-reads.Asked, read-reads.Learnt, check-term-below t, check-term.Post)
+check-args-calls t = (read-reads.Asked, read-reads.Learnt, check-term-below t, check-term.Post)
 
 abbrev check-fills-calls : ℕ → check-fills-lts.Claims
-check-fills-calls t =
-    (read-reads.Asked, read-reads.Learnt, names-reads.Asked, names-reads.Learnt, check-term-below t, check-term.Post)
+check-fills-calls t = (read-reads.Asked, read-reads.Learnt, names-reads.Asked, names-reads.Learnt, check-term-below t, check-term.Post)
 
 abbrev check-hole-calls : ℕ → check-hole-lts.Claims
-check-hole-calls t =
-    (read-reads.Asked, read-reads.Learnt, offended-reads.Asked, offended-reads.Learnt, check-fills-below t, check-fills.Post)
+check-hole-calls t = (read-reads.Asked, read-reads.Learnt, offended-reads.Asked, offended-reads.Learnt, check-fills-below t, check-fills.Post)
 
 abbrev check-term-calls : ℕ → check-term-lts.Claims
 check-term-calls t =
@@ -100,7 +95,8 @@ abbrev check-args-μ-loop : check-args-lts.MeasureT-loop
 check-args-μ-loop table stack₀ low₀ depth l head count list₀ rest₀ left₀ stack low list rest left = size list
 
 abbrev check-fills-Inv-loop : check-fills-lts.InvT-loop
-check-fills-Inv-loop table stack₀ low₀ depth l context list₀ rest₀ stack low list rest = Passed (ListAt (isType table) table) (filled table (binders stack₀ depth)) table stack₀ low₀ depth l context stack low list rest
+check-fills-Inv-loop table stack₀ low₀ depth l context list₀ rest₀ stack low list rest =
+    Passed (ListAt (isType table) table) (filled table (binders stack₀ depth)) table stack₀ low₀ depth l context stack low list rest
 
 abbrev check-fills-μ-loop : check-fills-lts.MeasureT-loop
 check-fills-μ-loop table stack₀ low₀ depth l context list₀ rest₀ stack low list rest = size list
@@ -111,16 +107,16 @@ check-term-Inv-loop table stack₀ low₀ depth r ty d₀ at₀ term₀ stack lo
 abbrev check-term-μ-loop : check-term-lts.MeasureT-loop
 check-term-μ-loop table stack₀ low₀ depth r ty d₀ at₀ term₀ stack low d at term = term
 
--- where a rigid head's type is found
-abbrev At-head : ℕ → Type 0
-At-head t = check-term-lts.After-known-told2 (check-term-calls t) (check-term-at t) check-term.Post check-term-Inv-loop check-term-μ-loop
+-- a rigid head's type is found
+at-head : (t : ℕ) (c : check-term-lts.After-known-told2 (check-term-calls t) (check-term-at t) check-term.Post check-term-Inv-loop check-term-μ-loop)
+    → let rigid = c .before .before .before .before .before in let look = rigid .before .before .before .before in
+    Headed (look .before .loop .inv) (look .read .result) (c .before .head .given .0 .0)
+at-head t c = search headed
 
-at-head : (t : ℕ) (c : At-head t)
-    → let a = c .before .before .before .before .before .before .before .before .before .before .before .before .before .args in
-    let l = c .before .before .before .before .before .before .before .before .before .before .loop in
-    Headed (a .table .now) (a .stack .now) (a .low .now) (a .depth) (a .r) (a .ty) (l .stack) (l .low) (l .d) (l .at) (l .term) (c .before .before .before .before .before .before .before .before .before .read .result) (c .before .head .given .0 .0)
-at-head t c =
-    headed (c .before .before .before .before .before .before .before .before .before .before .loop .inv) (c .before .before .before .before .before .before .before .before .before .read .ensures) (c .before .before .before .before .before .before .before .if1 .left) (c .before .before .before .before .before .if2 .left) (c .before .before .before .head-type .ensures) (search needs)
+-- its final type is the type asked, and it asks an argument
+at-list : (t : ℕ) (c : check-term-lts.Else4 (check-term-calls t) (check-term-at t) check-term.Post check-term-Inv-loop check-term-μ-loop)
+    → let f = c .before .before .before .before in Asking (at-head t (f .before)) t (f .final-type .result)
+at-list t c = search needs
 
 pub +check-args+check-fills+check-hole+check-term-spec : {M : Type 1} → statement M
 +check-args+check-fills+check-hole+check-term-spec =
@@ -154,7 +150,7 @@ pub +check-args+check-fills+check-hole+check-term-spec : {M : Type 1} → statem
     (λ c. search context-short)
     (λ c κs. search context-inside)
     (λ c κs. search cell-inside)
-    (λ c κs. (let room = c .before .before .before .before .before .loop .inv .asks .room in let long = c .before .before .before .before .before .loop .inv .same-length in omega arith, search element-inside))
+    (λ c κs. (search list-stack-holds, search element-inside))
     (λ c κs. (search element-less, search (element-asks, context-type)))
     (λ c. search needs)
     (λ c. search filling-fails)
@@ -186,28 +182,28 @@ pub +check-args+check-fills+check-hole+check-term-spec : {M : Type 1} → statem
     (λ c. search needs)
     (λ c. search needs)
     (λ c. search no-arrow)
-    (λ c. let room = c .before .before .before .before .before .before .before .before .before .before .loop .inv .asks .room in omega arith)
+    (λ c. let bound = c .before .before .before .before .before in let room = bound .before .before .before .before .before .loop .inv .asks .room in omega arith)
     (λ c. search body-less)
     (λ c. search body-next)
     (λ c κs. (search hole-less, (search needs, search tagged)))
     (λ c. search needs)
     (λ c. search answered)
-    (λ c κs. (let room = c .before .before .before .before .before .before .loop .inv .asks .room in omega arith, λ v. search head-inside))
+    (λ c κs. (search stack-holds, λ v. search head-inside))
     (λ c. search needs)
     (λ c. search needs)
     (λ c. search needs)
     (λ c. search head-free)
-    (λ c κs. head-type (at-head t c))
+    (λ c κs. let h = at-head t c in search needs)
     (λ c. search needs)
-    (λ c. other-base (at-head t (c .before .before .before)) (c .before .before .final-type .ensures) (c .if3 .taken))
+    (λ c. let h = at-head t (c .before .before .before) in search other-base)
     (λ c. search needs)
-    (λ c. none-asked (at-head t (c .before .before .before .before .before .before)) (c .before .before .before .before .before .final-type .ensures) (c .before .before .before .if3 .left) (c .before .if4 .taken))
+    (λ c. let h = at-head t (c .before .before .before .before .before .before) in search none-asked)
     (λ c. search needs)
-    (λ c. none-given (at-head t (c .before .before .before .before .before .before .before)) (c .before .before .before .before .before .before .final-type .ensures) (c .before .before .before .before .if3 .left) (c .before .before .if4 .left) (c .if5 .taken))
-    (λ c κs. (arguments-less (at-head t (c .before .before .before .before .before .before .before .before .before)) _ (c .before .before .before .before .before .before .before .before .before .before .before .before .before .before .before .before .before .before .before .before .before .before .pre .0), list-asks (at-head t (c .before .before .before .before .before .before .before .before .before)) (c .before .before .before .before .before .before .before .before .final-type .ensures) (c .before .before .before .before .before .before .if3 .left) (c .before .before .before .before .if4 .left) (c .before .before .if5 .left)))
+    (λ c. let h = at-list t (c .before .before) in search none-given)
+    (λ c κs. let h = at-list t (c .before .before .before .before) in (search arguments-less, search list-asks))
     (λ c. search needs)
     (λ c. search needs)
-    (λ c. let long = c .before .before .before .before .before .before .before .before .before .before .before .before .before .before .before .before .before .before .before .before .before .before .before .before .loop .inv .same-length in search needs)
-    (λ c. list-fails (at-head t (c .before .before .before .before .before .before .before .before .before .before .before .before .before .before)) (c .before .before .before .before .before .before .before .before .before .before .before .before .before .final-type .ensures) (c .before .before .before .before .before .before .before .before .before .before .before .if3 .left) (c .before .before .before .before .before .before .before .before .before .if4 .left) _ _ _ (c .before .before .before .before .check-args .ensures) (search needs))
-    (λ c. last-less (at-head t (c .before .before .before .before .before .before .before .before .before .before .before .before .before .before .before)) (c .before .before .before .before .before .before .before .before .before .before .before .before .before .before .final-type .ensures) (c .before .before .before .before .before .before .before .before .before .before .before .before .if3 .left) (c .before .before .before .before .before .before .before .before .before .before .if4 .left) _ _ _ (c .before .before .before .before .before .check-args .ensures) {u = c .before .last .given .0 .1 .0} (search needs))
-    (λ c. last-next (at-head t (c .before .before .before .before .before .before .before .before .before .before .before .before .before .before .before)) (c .before .before .before .before .before .before .before .before .before .before .before .before .before .before .final-type .ensures) (c .before .before .before .before .before .before .before .before .before .before .before .before .if3 .left) (c .before .before .before .before .before .before .before .before .before .before .if4 .left) _ _ _ (c .before .before .before .before .before .check-args .ensures) (search needs) (search needs))
+    (λ c. let list = c .before .before .before .before in let long = stack-long (at-list t (list .before .before .before .before .before)) in search needs)
+    (λ c. let list = c .before .before .before .before in let h = at-list t (list .before .before .before .before .before) in search list-fails)
+    (λ c. let list = c .before .before .before .before .before in let h = at-list t (list .before .before .before .before .before) in search last-less)
+    (λ c. let list = c .before .before .before .before .before in last-next (at-list t (list .before .before .before .before .before)) _ _ _ (list .check-args .ensures) (search needs) (search needs))

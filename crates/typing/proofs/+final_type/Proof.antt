@@ -2,7 +2,7 @@
 use borrow.Author.Needs.{needs}
 use native.Mathlib.Omega.{arith}
 use Rattle.laws.specs.Places.{placed-inside}
-use Rattle.typing.proofs.Heads.{final-here, result-inside, final-one, second-less, second-type, final-room, final-two}
+use Rattle.typing.proofs.Heads.{final-here, result-inside, final-one, second-less, second-type, type-lent, final-room, final-two}
 use Prim.Native.Nat.{ℕ, _<_}
 use borrow.Fn.Kinds.{In}
 use borrow.Fn.PlainCycle.{Measures, is, falls, and}
@@ -39,6 +39,6 @@ pub +final-type-spec : {M : Type 1} → statement M
     (λ c. search needs)
     (λ c. search needs)
     (λ c. search needs)
-    (λ c κs. (let less : c .before .before .before .read2 .result .b < c .before .before .before .before .before .before .before .before .args .ty = search second-less in omega arith, second-type _ _ (c .before .before .before .before .before .before .before .before .pre .1) _ (c .before .before .before .before .before .before .read .ensures) (c .before .before .before .before .if1 .left) _ (c .before .before .before .read2 .ensures) (c .before .if2 .left)))
+    (λ c κs. let y = c .before .before .before in let ws = y .before .before .before .before .before .args .table .now in (search second-less, type-lent ws _ (search second-type)))
     (λ c. let few : c .before .final-type .result .count < 4096 = search final-room in omega arith)
     (λ c. search final-two)
