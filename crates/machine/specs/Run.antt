@@ -20,7 +20,7 @@ use Rattle.invariants.specs.Turn.{step-grows}
 use Rattle.promise.specs.Known.{Known, known-step}
 use Rattle.rewrite.specs.Levels.{fuel}
 use Rattle.store.specs.Said.{store}
-use Rattle.queue.specs.Ring.{Some, view, view-none, Leaves, frontOf, left-view, left-fine}
+use Rattle.queue.specs.Ring.{Front, Some, view, view-none, Leaves, frontOf, fine-front, fine-some, left-view, left-fine}
 use Rattle.step.specs.Said.{stepped, Steps}
 use Rattle.step.specs.Stand.{Stood}
 
@@ -119,8 +119,11 @@ module _ (R n cap : ℕ) (ws₀ ss₀ : List ℕ) (used₀ : ℕ) (q₀ : List �
         turn-ends z =
             t .leads ws₁ ss₁ (Solved u₁) (onward u₁ (done (view q₁ cap g₁)) (Solved u₁) ws₁ ss₁ done-is (ended-so .falls) (runs-none R cap ws₁ ss₁ u₁ (view q₁ cap g₁) (view-none q₁ cap g₁ z)))
 
-        pub done-some : (g₁ .count ≡ 0 → ⊥) → Some q₁ cap g₁
-        done-some z = record { fine = s .rings .fine g₁ u₁ p; some = omega arith }
+        pub done-front : (g₁ .count ≡ 0 → ⊥) → Front q₁ g₁
+        done-front z = fine-front q₁ cap g₁ (s .rings .fine g₁ u₁ p) z
+
+        pub done-some : (g₁ .count ≡ 0 → ⊥) → Some cap g₁
+        done-some z = fine-some q₁ cap g₁ (s .rings .fine g₁ u₁ p) z
 
         module _ (z : g₁ .count ≡ 0 → ⊥) (g₂ : Ring) (v : Leaves cap g₁ g₂) where
           first : Running R cap n (came u₁ (done (view q₁ cap g₁)) done-is .home₁) (store ws₁ ss₁ u₁) ((frontOf q₁ g₁ .left, frontOf q₁ g₁ .right) ∷ view q₁ cap g₂)
@@ -145,7 +148,7 @@ module _ (R n cap : ℕ) (ws₀ ss₀ : List ℕ) (used₀ : ℕ) (q₀ : List �
                 same-table = lw ∙ t .same-table;
                 same-solutions = ls ∙ t .same-solutions;
                 same-queue = lq ∙ t .same-queue;
-                stood = record { home = came u₁ (done (view q₁ cap g₁)) done-is .home₁; running = first; known = first-known; ring = left-fine q₁ cap g₁ g₂ (done-some z) v };
+                stood = record { home = came u₁ (done (view q₁ cap g₁)) done-is .home₁; running = first; known = first-known; ring = left-fine q₁ cap g₁ g₂ (s .rings .fine g₁ u₁ p) v };
                 leads = λ ws₂ ss₂ y h. t .leads ws₂ ss₂ y (onward u₁ (done (view q₁ cap g₁)) y ws₂ ss₂ done-is (ended-so .falls) (rw (left-view q₁ cap g₁ g₂ v) h));
               }
 

@@ -22,7 +22,7 @@ use Rattle.invariants.specs.Falls.{steps-more}
 use Rattle.invariants.specs.Turn.{lefts-low}
 use Rattle.promise.specs.Known.{Known}
 use Rattle.store.specs.Said.{store}
-use Rattle.queue.specs.Ring.{Fine, Some, view, view-none, Queued, Leaves, frontOf, left-view, left-fine, noPair}
+use Rattle.queue.specs.Ring.{Fine, Front, Some, view, view-none, Queued, Leaves, frontOf, fine-front, fine-some, left-view, left-fine, noPair}
 use Rattle.queue.specs.Equations.{sidesOf, Entering}
 use Rattle.step.specs.Stand.{Stood}
 use Rattle.machine.specs.Run.{ended, Runs, runs-none}
@@ -39,14 +39,17 @@ module _ (R n : ℕ) (ws ss : List ℕ) (used : ℕ) (q : List ℕ) (cap : ℕ) 
   set-none z = runs-none R cap ws ss used (view q cap g) (view-none q cap g z)
 
   module _ (h : Set R n ws ss used q cap g) (z : g .count ≡ 0 → ⊥) where
-    pub set-some : Some q cap g
-    set-some = record { fine = h .ring; some = omega arith }
+    pub set-front : Front q g
+    set-front = fine-front q cap g (h .ring) z
+
+    pub set-some : Some cap g
+    set-some = fine-some q cap g (h .ring) z
 
     module _ (g₁ : Ring) (v : Leaves cap g g₁) where
       first : Stood R n ws ss used q cap g₁ (frontOf q g .left) (frontOf q g .right)
       first =
           let e = left-view q cap g g₁ v in
-          record { home = h .home; running = rw e at (h .running); known = rw e at (h .known); ring = left-fine q cap g g₁ set-some v }
+          record { home = h .home; running = rw e at (h .running); known = rw e at (h .known); ring = left-fine q cap g g₁ (h .ring) v }
 
       pub set-stood : (f : Pair) → frontOf q g ≡ f → Stood R n ws ss used q cap g₁ (f .left) (f .right)
       set-stood f e = subst (λ (f : Pair). Stood R n ws ss used q cap g₁ (f .left) (f .right)) e first

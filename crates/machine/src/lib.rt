@@ -56,10 +56,10 @@ fn go_on(
                 if count == 0 {
                     return Ran::Solved(u1);
                 }
-                let p = peek(queue, cap, g1);
+                let p = peek(queue, g1);
                 l = p.left;
                 r = p.right;
-                g = leave(queue, cap, g1);
+                g = leave(cap, g1);
                 u = u1;
             }
         }
@@ -84,8 +84,8 @@ fn run(
     if count == 0 {
         return Ran::Solved(used);
     }
-    let p = peek(queue, cap, ring);
-    let rest = leave(queue, cap, ring);
+    let p = peek(queue, ring);
+    let rest = leave(cap, ring);
     go_on(
         table,
         solutions,

@@ -155,10 +155,21 @@ joins-at q cap g l r at h e =
       seen = rw (add-one (g .count)) (joined q cap at l r (h .fine .room) b (g .count) (g .head) (omega arith) (omega arith) a);
     }
 
--- a ring from which a pair can leave
-pub record Some (q : List ℕ) (cap : ℕ) (g : Ring) : Type 0 where
-  pub fine : Fine q cap g
+-- the place of the first pair lies in the slice
+pub record Front (q : List ℕ) (g : Ring) : Type 0 where
+  pub inside : 2 * g .head + 1 < length q
+
+-- a ring of cap places from which a pair can leave
+pub record Some (cap : ℕ) (g : Ring) : Type 0 where
+  pub head : g .head < cap
   pub some : 1 ≤ g .count
+
+module _ (q : List ℕ) (cap : ℕ) (g : Ring) (h : Fine q cap g) (z : g .count ≡ 0 → ⊥) where
+  pub fine-some : Some cap g
+  fine-some = let k = h .head in let n = h .count in record { head = omega arith; some = omega arith }
+
+  pub fine-front : Front q g
+  fine-front = let k = fine-some .head in let r = h .room in record { inside = omega arith }
 
 -- the first pair has left
 pub record Leaves (cap : ℕ) (g g₁ : Ring) : Type 0 where
@@ -172,14 +183,13 @@ pub left-view : (q : List ℕ) (cap : ℕ) (g g₁ : Ring) → Leaves cap g g₁
 unfolding view from
 left-view q cap g g₁ v = rw (v .count, v .head)
 
-pub left-fine : (q : List ℕ) (cap : ℕ) (g g₁ : Ring) → Some q cap g → Leaves cap g g₁ → Fine q cap g₁
-left-fine q cap g g₁ s v =
-    let h = s .fine .head in
-    let n = s .fine .count in
-    let k = s .some in
+pub left-fine : (q : List ℕ) (cap : ℕ) (g g₁ : Ring) → Fine q cap g → Leaves cap g g₁ → Fine q cap g₁
+left-fine q cap g g₁ f v =
+    let h = f .head in
+    let n = f .count in
     let c = v .count in
     let w = wrap-after cap (g .head + 1) (omega arith) .0 in
-    record { room = s .fine .room; head = rw (v .head) (omega arith); count = omega arith; few = s .fine .few }
+    record { room = f .room; head = rw (v .head) (omega arith); count = omega arith; few = f .few }
 
 -- no pair waits
 abbrev pub noPair : Ring

@@ -2,7 +2,7 @@
 use Rattle.invariants.specs.Running.{ahead}
 use mathlib.Core.List.{_∷_}
 use Rattle.queue.specs.Ring.{view}
-use Rattle.machine.specs.Run.{Turn, turn-first, turn-stood, turn-fails, on-less, turn-on, turn-ends, done-some, done-less, turn-takes}
+use Rattle.machine.specs.Run.{Turn, turn-first, turn-stood, turn-fails, on-less, turn-on, turn-ends, done-front, done-some, done-less, turn-takes}
 use borrow.Author.Needs.{needs}
 use Rattle.machine.proofs.go_on.Statement.{statement}
 use Rattle.machine.proofs.go_on.Tie as tie
@@ -41,7 +41,7 @@ go-on-spec =
     (λ c. search needs)
     (λ c. search needs)
     (λ c. search turn-ends)
-    (λ c κs. done-some _ _ _ _ _ _ _ _ _ _ _ _ _ _ _ _ _ (c .before .before .before .before .before .before .before .before .before .before .before .before .before .before .before .loop .inv) _ _ _ _ (c .before .before .before .before .before .before .before .before .before .before .before .take-step .ensures) _ _ (c .before .before .before .g1 .given .1) (c .before .if1 .left))
-    (λ c κs. done-some _ _ _ _ _ _ _ _ _ _ _ _ _ _ _ _ _ (c .before .before .before .before .before .before .before .before .before .before .before .before .before .before .before .before .before .loop .inv) _ _ _ _ (c .before .before .before .before .before .before .before .before .before .before .before .before .before .take-step .ensures) _ _ (c .before .before .before .before .before .g1 .given .1) (c .before .before .before .if1 .left))
-    (λ c. done-less _ _ _ _ _ _ _ _ _ _ _ _ _ _ _ _ _ (c .before .before .before .before .before .before .before .before .before .before .before .before .before .before .before .before .before .before .loop .inv) _ _ _ _ (c .before .before .before .before .before .before .before .before .before .before .before .before .before .before .take-step .ensures) _ _ (c .before .before .before .before .before .before .g1 .given .1) (c .before .before .before .before .if1 .left) _ (c .leave .ensures) _ (c .before .before .peek .ensures))
-    (λ c. turn-takes _ _ _ _ _ _ _ _ _ _ _ _ _ _ _ _ _ (c .before .before .before .before .before .before .before .before .before .before .before .before .before .before .before .before .before .before .loop .inv) _ _ _ _ (c .before .before .before .before .before .before .before .before .before .before .before .before .before .before .take-step .ensures) _ _ (c .before .before .before .before .before .before .g1 .given .1) (c .before .before .before .before .if1 .left) _ (c .leave .ensures) _ (search needs) (search needs) (search needs) (c .before .before .peek .ensures)))
+    (λ c κs. done-front _ _ _ _ _ _ _ _ _ _ _ _ _ _ _ _ _ (c .before .before .before .before .before .before .before .before .before .before .before .before .before .before .before .loop .inv) _ _ _ _ (c .before .before .before .before .before .before .before .before .before .before .before .take-step .ensures) _ _ (c .before .before .before .g1 .given .1) (c .before .if1 .left))
+    (λ c κs. done-some _ _ _ _ _ _ _ _ _ _ _ _ _ _ _ _ _ (c .before .before .before .before .before .before .before .before .before .before .before .before .before .before .before .before .loop .inv) _ _ _ _ (c .before .before .before .before .before .before .before .before .before .before .before .before .take-step .ensures) _ _ (c .before .before .before .before .g1 .given .1) (c .before .before .if1 .left))
+    (λ c. done-less _ _ _ _ _ _ _ _ _ _ _ _ _ _ _ _ _ (c .before .before .before .before .before .before .before .before .before .before .before .before .before .before .before .before .before .loop .inv) _ _ _ _ (c .before .before .before .before .before .before .before .before .before .before .before .before .before .take-step .ensures) _ _ (c .before .before .before .before .before .g1 .given .1) (c .before .before .before .if1 .left) _ (c .leave .ensures) _ (c .before .peek .ensures))
+    (λ c. turn-takes _ _ _ _ _ _ _ _ _ _ _ _ _ _ _ _ _ (c .before .before .before .before .before .before .before .before .before .before .before .before .before .before .before .before .before .loop .inv) _ _ _ _ (c .before .before .before .before .before .before .before .before .before .before .before .before .before .take-step .ensures) _ _ (c .before .before .before .before .before .g1 .given .1) (c .before .before .before .if1 .left) _ (c .leave .ensures) _ (search needs) (search needs) (search needs) (c .before .peek .ensures)))

@@ -1,5 +1,5 @@
 -- `machine::run` meets its contract.
-use Rattle.machine.specs.Start.{set-none, set-some, set-stood, set-runs}
+use Rattle.machine.specs.Start.{set-none, set-front, set-some, set-stood, set-runs}
 use borrow.Author.Needs.{needs}
 use Rattle.machine.proofs.run.Statement.{statement}
 use Rattle.machine.proofs.run.Tie as tie
@@ -14,7 +14,7 @@ run-spec =
     tie.close
     (tie.spec
     (λ c. search set-none)
-    (λ c κs. search set-some)
+    (λ c κs. search set-front)
     (λ c κs. search set-some)
     (λ c κs. search set-stood)
     (λ c. search needs)
