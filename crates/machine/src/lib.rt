@@ -9,7 +9,6 @@ use step::Step;
 use step::take_step;
 ghost use mathlib.Core.Path.{_≡_};
 ghost use mathlib.Core.List.{_∷_};
-ghost use Prim.Native.Nat.{_-_};
 ghost use Rattle.rules.specs.Machine.{machine as machineOf};
 ghost use Rattle.store.specs.Said.{store};
 ghost use Rattle.queue.specs.Ring.{view};

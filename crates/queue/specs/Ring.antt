@@ -1,6 +1,6 @@
 -- A ring of pairs in a list of words: what waits, and what joining and leaving do to it.
 use Prim.Native.Nat.{ℕ, zero, suc, _+_, _-_, _*_, _<_, _≤_}
-use mathlib.Core.Path.{_≡_, refl, sym, ap, _∙_}
+use mathlib.Core.Path.{_≡_, refl, sym, ap, subst, _∙_}
 use mathlib.Core.List.{List, [], _∷_, _++_, append-nil, append-assoc}
 use mathlib.Core.Bool.{true, false}
 use mathlib.Core.Logic.{_⊎_, inl, inr}
@@ -133,7 +133,8 @@ queued-to q cap g new q₁ g₁ j = record { full = λ e. let z : _≡_ {A = ℕ
 pub joins-none : (q : List ℕ) (cap : ℕ) (g : Ring) → Fine q cap g → Joins q cap g [] q g
 joins-none q cap g f = record { fine = f; counted = omega arith; seen = sym (append-nil _) }
 
-pub joins-more : (q : List ℕ) (cap : ℕ) (g : Ring) (p : Waiting) (new : List Waiting) (q₁ : List ℕ) (g₁ : Ring) (q₂ : List ℕ) (g₂ : Ring) → Joins q cap g (p ∷ []) q₁ g₁ → Joins q₁ cap g₁ new q₂ g₂ → Joins q cap g (p ∷ new) q₂ g₂
+pub joins-more : (q : List ℕ) (cap : ℕ) (g : Ring) (p : Waiting) (new : List Waiting) (q₁ : List ℕ) (g₁ : Ring) (q₂ : List ℕ) (g₂ : Ring)
+    → Joins q cap g (p ∷ []) q₁ g₁ → Joins q₁ cap g₁ new q₂ g₂ → Joins q cap g (p ∷ new) q₂ g₂
 joins-more q cap g p new q₁ g₁ q₂ g₂ a b =
     let c = a .counted in
     let d = b .counted in
@@ -179,9 +180,9 @@ pub record Leaves (cap : ℕ) (g g₁ : Ring) : Type 0 where
 abbrev pub frontOf : List ℕ → Ring → Pair
 frontOf q g = record { left = getD q (2 * g .head) 0; right = getD q (2 * g .head + 1) 0 }
 
-pub left-view : (q : List ℕ) (cap : ℕ) (g g₁ : Ring) → Leaves cap g g₁ → view q cap g ≡ (frontOf q g .left, frontOf q g .right) ∷ view q cap g₁
+pub left-view : (q : List ℕ) (cap : ℕ) (g g₁ : Ring) (f : Pair) → Leaves cap g g₁ → frontOf q g ≡ f → view q cap g ≡ (f .left, f .right) ∷ view q cap g₁
 unfolding view from
-left-view q cap g g₁ v = rw (v .count, v .head)
+left-view q cap g g₁ f v e = subst (λ (f : Pair). view q cap g ≡ (f .left, f .right) ∷ view q cap g₁) e (rw (v .count, v .head))
 
 pub left-fine : (q : List ℕ) (cap : ℕ) (g g₁ : Ring) → Fine q cap g → Leaves cap g g₁ → Fine q cap g₁
 left-fine q cap g g₁ f v =
