@@ -1,6 +1,6 @@
 -- Where the run and the machine start.
 use Prim.Native.Nat.{ℕ, _+_, _*_, _<_, _≤_}
-use mathlib.Core.Path.{_≡_, refl, sym, subst}
+use mathlib.Core.Path.{_≡_, refl}
 use mathlib.Core.List.{List, _∷_}
 use native.Mathlib.Omega.{arith}
 use lib.ListN.{length, getD, take}
@@ -22,7 +22,7 @@ use Rattle.invariants.specs.Falls.{steps-more}
 use Rattle.invariants.specs.Turn.{lefts-low}
 use Rattle.promise.specs.Known.{Known}
 use Rattle.store.specs.Said.{store}
-use Rattle.queue.specs.Ring.{Fine, Some, view, view-none, Queued, Leaves, frontOf, left-view, left-fine, noPair}
+use Rattle.queue.specs.Ring.{Fine, view, view-none, Queued, Leaves, frontOf, left-view, left-fine, noPair}
 use Rattle.queue.specs.Equations.{sidesOf, Entering}
 use Rattle.step.specs.Stand.{Stood}
 use Rattle.machine.specs.Run.{ended, Runs, runs-none}
@@ -38,23 +38,14 @@ module _ (R n : ℕ) (ws ss : List ℕ) (used : ℕ) (q : List ℕ) (cap : ℕ) 
   pub set-none : g .count ≡ 0 → Runs R cap (view q cap g) ws ss used ws ss (Solved used)
   set-none z = runs-none R cap ws ss used (view q cap g) (view-none q cap g z)
 
-  module _ (h : Set R n ws ss used q cap g) (z : g .count ≡ 0 → ⊥) where
-    pub set-some : Some q cap g
-    set-some = record { fine = h .ring; some = omega arith }
+  module _ (g₁ : Ring) (f : Pair) (v : Leaves cap g g₁) (e : frontOf q g ≡ f) where
+    pub set-stood : Set R n ws ss used q cap g → Stood R n ws ss used q cap g₁ (f .left) (f .right)
+    set-stood h =
+        let k = left-view q cap g g₁ f v e in
+        record { home = h .home; running = rw k at (h .running); known = rw k at (h .known); ring = left-fine q cap g g₁ (h .ring) v }
 
-    module _ (g₁ : Ring) (v : Leaves cap g g₁) where
-      first : Stood R n ws ss used q cap g₁ (frontOf q g .left) (frontOf q g .right)
-      first =
-          let e = left-view q cap g g₁ v in
-          record { home = h .home; running = rw e at (h .running); known = rw e at (h .known); ring = left-fine q cap g g₁ set-some v }
-
-      pub set-stood : (f : Pair) → frontOf q g ≡ f → Stood R n ws ss used q cap g₁ (f .left) (f .right)
-      set-stood f e = subst (λ (f : Pair). Stood R n ws ss used q cap g₁ (f .left) (f .right)) e first
-
-      pub set-runs : (f : Pair) (ws₁ ss₁ : List ℕ) (x : Ran) → frontOf q g ≡ f → Runs R cap ((f .left, f .right) ∷ view q cap g₁) ws ss used ws₁ ss₁ x → Runs R cap (view q cap g) ws ss used ws₁ ss₁ x
-      set-runs f ws₁ ss₁ x e p =
-          let k : Runs R cap ((frontOf q g .left, frontOf q g .right) ∷ view q cap g₁) ws ss used ws₁ ss₁ x = subst (λ (f : Pair). Runs R cap ((f .left, f .right) ∷ view q cap g₁) ws ss used ws₁ ss₁ x) (sym e) p in
-          rw (left-view q cap g g₁ v) k
+    pub set-runs : (ws₁ ss₁ : List ℕ) (x : Ran) → Runs R cap ((f .left, f .right) ∷ view q cap g₁) ws ss used ws₁ ss₁ x → Runs R cap (view q cap g) ws ss used ws₁ ss₁ x
+    set-runs ws₁ ss₁ x p = rw (left-view q cap g g₁ f v e) p
 
 -- the first k of these numbers are those of the equations, in record order
 pub record Noted (ws : List ℕ) (n : ℕ) (es : List ℕ) (k : ℕ) : Type 0 where

@@ -9,7 +9,6 @@ use step::Step;
 use step::take_step;
 ghost use mathlib.Core.Path.{_≡_};
 ghost use mathlib.Core.List.{_∷_};
-ghost use Prim.Native.Nat.{_-_};
 ghost use Rattle.rules.specs.Machine.{machine as machineOf};
 ghost use Rattle.store.specs.Said.{store};
 ghost use Rattle.queue.specs.Ring.{view};
@@ -56,10 +55,10 @@ fn go_on(
                 if count == 0 {
                     return Ran::Solved(u1);
                 }
-                let p = peek(queue, cap, g1);
+                let p = peek(queue, g1);
                 l = p.left;
                 r = p.right;
-                g = leave(queue, cap, g1);
+                g = leave(cap, g1);
                 u = u1;
             }
         }
@@ -84,8 +83,8 @@ fn run(
     if count == 0 {
         return Ran::Solved(used);
     }
-    let p = peek(queue, cap, ring);
-    let rest = leave(queue, cap, ring);
+    let p = peek(queue, ring);
+    let rest = leave(cap, ring);
     go_on(
         table,
         solutions,

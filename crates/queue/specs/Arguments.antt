@@ -47,7 +47,9 @@ module _ (ws : List ℕ) (l r : ℕ) where
 
     both-rest : (c d : Record) → IsRecord ws l c → IsRecord ws r d → Both ws (c .b) (d .b)
     both-rest c d e e₁ =
-        let z : suc (length (elements ws (fieldB ws l))) ≡ suc (length (elements ws (fieldB ws r))) = ap length (sym (elements-cell ws l n (h .left))) ∙ h .same ∙ ap length (elements-cell ws r also (h .right)) in
+        let a : length (elements ws l) ≡ suc (length (elements ws (fieldB ws l))) = ap length (elements-cell ws l n (h .left)) in
+        let b : length (elements ws r) ≡ suc (length (elements ws (fieldB ws r))) = ap length (elements-cell ws r also (h .right)) in
+        let z = h .same in
         record { left = to-rest ws l c n e (h .left); right = to-rest ws r d also e₁ (h .right); same = rw (e .b-is, e₁ .b-is) (omega arith) }
 
 -- a turn of the loop: what was asked at its start follows from what is asked now

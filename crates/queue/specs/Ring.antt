@@ -1,6 +1,6 @@
 -- A ring of pairs in a list of words: what waits, and what joining and leaving do to it.
 use Prim.Native.Nat.{ℕ, zero, suc, _+_, _-_, _*_, _<_, _≤_}
-use mathlib.Core.Path.{_≡_, refl, sym, ap, _∙_}
+use mathlib.Core.Path.{_≡_, refl, sym, ap, subst, _∙_}
 use mathlib.Core.List.{List, [], _∷_, _++_, append-nil, append-assoc}
 use mathlib.Core.Bool.{true, false}
 use mathlib.Core.Logic.{_⊎_, inl, inr}
@@ -133,7 +133,8 @@ queued-to q cap g new q₁ g₁ j = record { full = λ e. let z : _≡_ {A = ℕ
 pub joins-none : (q : List ℕ) (cap : ℕ) (g : Ring) → Fine q cap g → Joins q cap g [] q g
 joins-none q cap g f = record { fine = f; counted = omega arith; seen = sym (append-nil _) }
 
-pub joins-more : (q : List ℕ) (cap : ℕ) (g : Ring) (p : Waiting) (new : List Waiting) (q₁ : List ℕ) (g₁ : Ring) (q₂ : List ℕ) (g₂ : Ring) → Joins q cap g (p ∷ []) q₁ g₁ → Joins q₁ cap g₁ new q₂ g₂ → Joins q cap g (p ∷ new) q₂ g₂
+pub joins-more : (q : List ℕ) (cap : ℕ) (g : Ring) (p : Waiting) (new : List Waiting) (q₁ : List ℕ) (g₁ : Ring) (q₂ : List ℕ) (g₂ : Ring)
+    → Joins q cap g (p ∷ []) q₁ g₁ → Joins q₁ cap g₁ new q₂ g₂ → Joins q cap g (p ∷ new) q₂ g₂
 joins-more q cap g p new q₁ g₁ q₂ g₂ a b =
     let c = a .counted in
     let d = b .counted in
@@ -155,10 +156,21 @@ joins-at q cap g l r at h e =
       seen = rw (add-one (g .count)) (joined q cap at l r (h .fine .room) b (g .count) (g .head) (omega arith) (omega arith) a);
     }
 
--- a ring from which a pair can leave
-pub record Some (q : List ℕ) (cap : ℕ) (g : Ring) : Type 0 where
-  pub fine : Fine q cap g
+-- the place of the first pair lies in the slice
+pub record Front (q : List ℕ) (g : Ring) : Type 0 where
+  pub inside : 2 * g .head + 1 < length q
+
+-- a ring of cap places from which a pair can leave
+pub record Some (cap : ℕ) (g : Ring) : Type 0 where
+  pub head : g .head < cap
   pub some : 1 ≤ g .count
+
+module _ (q : List ℕ) (cap : ℕ) (g : Ring) (h : Fine q cap g) (z : g .count ≡ 0 → ⊥) where
+  pub fine-some : Some cap g
+  fine-some = let k = h .head in let n = h .count in record { head = omega arith; some = omega arith }
+
+  pub fine-front : Front q g
+  fine-front = let k = fine-some .head in let r = h .room in record { inside = omega arith }
 
 -- the first pair has left
 pub record Leaves (cap : ℕ) (g g₁ : Ring) : Type 0 where
@@ -168,18 +180,17 @@ pub record Leaves (cap : ℕ) (g g₁ : Ring) : Type 0 where
 abbrev pub frontOf : List ℕ → Ring → Pair
 frontOf q g = record { left = getD q (2 * g .head) 0; right = getD q (2 * g .head + 1) 0 }
 
-pub left-view : (q : List ℕ) (cap : ℕ) (g g₁ : Ring) → Leaves cap g g₁ → view q cap g ≡ (frontOf q g .left, frontOf q g .right) ∷ view q cap g₁
+pub left-view : (q : List ℕ) (cap : ℕ) (g g₁ : Ring) (f : Pair) → Leaves cap g g₁ → frontOf q g ≡ f → view q cap g ≡ (f .left, f .right) ∷ view q cap g₁
 unfolding view from
-left-view q cap g g₁ v = rw (v .count, v .head)
+left-view q cap g g₁ f v e = subst (λ (f : Pair). view q cap g ≡ (f .left, f .right) ∷ view q cap g₁) e (rw (v .count, v .head))
 
-pub left-fine : (q : List ℕ) (cap : ℕ) (g g₁ : Ring) → Some q cap g → Leaves cap g g₁ → Fine q cap g₁
-left-fine q cap g g₁ s v =
-    let h = s .fine .head in
-    let n = s .fine .count in
-    let k = s .some in
+pub left-fine : (q : List ℕ) (cap : ℕ) (g g₁ : Ring) → Fine q cap g → Leaves cap g g₁ → Fine q cap g₁
+left-fine q cap g g₁ f v =
+    let h = f .head in
+    let n = f .count in
     let c = v .count in
     let w = wrap-after cap (g .head + 1) (omega arith) .0 in
-    record { room = s .fine .room; head = rw (v .head) (omega arith); count = omega arith; few = s .fine .few }
+    record { room = f .room; head = rw (v .head) (omega arith); count = omega arith; few = f .few }
 
 -- no pair waits
 abbrev pub noPair : Ring

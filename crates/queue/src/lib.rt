@@ -5,7 +5,7 @@ ghost use mathlib.Core.Path.{_≡_};
 ghost use mathlib.Core.List.{_∷_, []};
 ghost use Prim.Native.Nat.{_+_, _<_};
 ghost use lib.ListN.{take};
-ghost use Rattle.queue.specs.Ring.{Wraps, Roomy, Some, Joins, Queued, Leaves, frontOf, noPair};
+ghost use Rattle.queue.specs.Ring.{Wraps, Roomy, Front, Some, Joins, Queued, Leaves, frontOf, noPair};
 ghost use Rattle.queue.specs.Arguments.{pairsOf, Joining};
 ghost use Rattle.queue.specs.Equations.{sidesOf, Entering};
 
@@ -55,8 +55,8 @@ fn join(queue: &mut [u32], cap: usize, ring: Ring, left: u32, right: u32) -> Rin
 }
 
 // The first pair.
-pub fn peek(queue: &[u32], cap: usize, ring: Ring) -> Pair
-    requires { ⌜ Some (now queue) cap ring ⌝ }
+pub fn peek(queue: &[u32], ring: Ring) -> Pair
+    requires { ⌜ Front (now queue) ring ⌝ }
     ensures { λ p. ⌜ frontOf (now (queue .entry)) ring ≡ p ⌝ }
 {
     let head = ring.head;
@@ -67,8 +67,8 @@ pub fn peek(queue: &[u32], cap: usize, ring: Ring) -> Pair
 }
 
 // The first pair leaves, and its place is free.
-pub fn leave(queue: &[u32], cap: usize, ring: Ring) -> Ring
-    requires { ⌜ Some (now queue) cap ring ⌝ }
+pub fn leave(cap: usize, ring: Ring) -> Ring
+    requires { ⌜ Some cap ring ⌝ }
     ensures { λ g. ⌜ Leaves cap ring g ⌝ }
 {
     let head = wrap(cap, ring.head + 1);

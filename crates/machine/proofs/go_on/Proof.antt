@@ -1,8 +1,9 @@
 -- `machine::go_on` meets its contract.
 use Rattle.invariants.specs.Running.{ahead}
 use mathlib.Core.List.{_∷_}
-use Rattle.queue.specs.Ring.{view}
-use Rattle.machine.specs.Run.{Turn, turn-first, turn-stood, turn-fails, on-less, turn-on, turn-ends, done-some, done-less, turn-takes}
+use Rattle.queue.specs.Ring.{view, fine-front, fine-some}
+use Rattle.machine.specs.Run.{Turn, Waits, turn-first, turn-stood, turn-fails, on-less, turn-on, turn-ends, turn-waits, takes-less, turn-takes}
+use denote.Ref.{now}
 use borrow.Author.Needs.{needs}
 use Rattle.machine.proofs.go_on.Statement.{statement}
 use Rattle.machine.proofs.go_on.Tie as tie
@@ -14,11 +15,22 @@ use Rattle.step.proofs.take_step.Reads as take-step-reads
 
 abbrev Inv-loop : tie.InvT-loop
 Inv-loop table₀ solutions₀ queue₀ n used room cap left right g₀ u₀ l₀ r₀ table solutions queue g u l r =
-    Turn room n cap table₀ solutions₀ u₀ queue₀ g₀ l₀ r₀ table solutions u queue g l r
+    Turn room n cap ((l₀, r₀) ∷ view queue₀ cap g₀) table₀ solutions₀ u₀ queue₀ ((l, r) ∷ view queue cap g) table solutions u queue g
 
 abbrev μ-loop : tie.MeasureT-loop
 μ-loop table₀ solutions₀ queue₀ n used room cap left right g₀ u₀ l₀ r₀ table solutions queue g u l r =
     ahead room cap u ((l, r) ∷ view queue cap g)
+
+-- what is known where a step is done with its pair
+waits : (c : tie.After-g1 Inv-loop μ-loop)
+    → let k = c .before .before .before .before .before .before in
+    let s = k .before .before in
+    let i = s .before .before .before .before in
+    let a = i .before .before .before .before .args in
+    Waits (a .room) (a .n) (a .cap) ((a .left, a .right) ∷ view (now (a .queue)) (a .cap) (a .ring)) (now (a .table)) (now (a .solutions)) (a .used) (now (a .queue))
+    (ahead (a .room) (a .cap) (i .loop .u) ((i .loop .l, i .loop .r) ∷ view (i .loop .queue) (a .cap) (i .loop .g)))
+    (s .take-step .last .0) (s .take-step .last .1 .0) (c .g1 .given .0 .1 .0) (s .take-step .last .1 .1 .0) (c .g1 .given .0 .0)
+waits c = search turn-waits
 
 pub go-on-spec : {M : Type 1} → statement M
 go-on-spec =
@@ -41,7 +53,7 @@ go-on-spec =
     (λ c. search needs)
     (λ c. search needs)
     (λ c. search turn-ends)
-    (λ c κs. done-some _ _ _ _ _ _ _ _ _ _ _ _ _ _ _ _ _ (c .before .before .before .before .before .before .before .before .before .before .before .before .before .before .before .loop .inv) _ _ _ _ (c .before .before .before .before .before .before .before .before .before .before .before .take-step .ensures) _ _ (c .before .before .before .g1 .given .1) (c .before .if1 .left))
-    (λ c κs. done-some _ _ _ _ _ _ _ _ _ _ _ _ _ _ _ _ _ (c .before .before .before .before .before .before .before .before .before .before .before .before .before .before .before .before .before .loop .inv) _ _ _ _ (c .before .before .before .before .before .before .before .before .before .before .before .before .before .take-step .ensures) _ _ (c .before .before .before .before .before .g1 .given .1) (c .before .before .before .if1 .left))
-    (λ c. done-less _ _ _ _ _ _ _ _ _ _ _ _ _ _ _ _ _ (c .before .before .before .before .before .before .before .before .before .before .before .before .before .before .before .before .before .before .loop .inv) _ _ _ _ (c .before .before .before .before .before .before .before .before .before .before .before .before .before .before .take-step .ensures) _ _ (c .before .before .before .before .before .before .g1 .given .1) (c .before .before .before .before .if1 .left) _ (c .leave .ensures) _ (c .before .before .peek .ensures))
-    (λ c. turn-takes _ _ _ _ _ _ _ _ _ _ _ _ _ _ _ _ _ (c .before .before .before .before .before .before .before .before .before .before .before .before .before .before .before .before .before .before .loop .inv) _ _ _ _ (c .before .before .before .before .before .before .before .before .before .before .before .before .before .before .take-step .ensures) _ _ (c .before .before .before .before .before .before .g1 .given .1) (c .before .before .before .before .if1 .left) _ (c .leave .ensures) _ (search needs) (search needs) (search needs) (c .before .before .peek .ensures)))
+    (λ c κs. let h = waits (c .before .before .before) in search fine-front)
+    (λ c κs. let h = waits (c .before .before .before .before) in search fine-some)
+    (λ c. let h = waits (c .before .before .before .before .before) in search takes-less)
+    (λ c. let h = waits (c .before .before .before .before .before) in search turn-takes))

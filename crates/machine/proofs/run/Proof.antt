@@ -1,5 +1,6 @@
 -- `machine::run` meets its contract.
-use Rattle.machine.specs.Start.{set-none, set-some, set-stood, set-runs}
+use Rattle.queue.specs.Ring.{fine-front, fine-some}
+use Rattle.machine.specs.Start.{set-none, set-stood, set-runs}
 use borrow.Author.Needs.{needs}
 use Rattle.machine.proofs.run.Statement.{statement}
 use Rattle.machine.proofs.run.Tie as tie
@@ -14,8 +15,8 @@ run-spec =
     tie.close
     (tie.spec
     (λ c. search set-none)
-    (λ c κs. search set-some)
-    (λ c κs. search set-some)
+    (λ c κs. search fine-front)
+    (λ c κs. search fine-some)
     (λ c κs. search set-stood)
     (λ c. search needs)
     (λ c. search needs)
