@@ -37,11 +37,11 @@ pub record Passed (Held : ℕ → Type 0) (so : ℕ → ℕ → Bool) (ws st₀ 
   pub lowest : min low₀ (among-terms ws l) ≡ min low (among-terms ws list)
   pub few : low ≤ NONE
 
-module _ (Held : ℕ → Type 0) (so : ℕ → ℕ → Bool) (ws st₀ : List ℕ) (low₀ d l x : ℕ) where
+module _ {Held : ℕ → Type 0} {so : ℕ → ℕ → Bool} {ws st₀ : List ℕ} {low₀ d l x : ℕ} where
   pub passed-none : ArgsAsk Held ws st₀ low₀ d l x → Passed Held so ws st₀ low₀ d l x st₀ low₀ l x
   passed-none a = record { asks = a; same-length = refl; keeps = refl; left = a .list; held = a .held; less = omega arith; same = refl; lowest = refl; few = a .few }
 
-  module _ (st : List ℕ) (low list rest : ℕ) (p : Passed Held so ws st₀ low₀ d l x st low list rest) where
+  module _ {st : List ℕ} {low list rest : ℕ} (p : Passed Held so ws st₀ low₀ d l x st low list rest) where
     pub refuses : (st₁ : List ℕ) (low₁ : ℕ) → binders st₁ d ≡ binders st d → so list rest ≡ false → Told d (so l x) (among-terms ws l) st₀ low₀ st₁ low₁ false
     refuses st₁ low₁ k e = record { says = sym (p .same ∙ e); keeps = k ∙ p .keeps; lowest = λ t. absurd (false-true t) }
 
@@ -59,7 +59,7 @@ module _ (Held : ℕ → Type 0) (so : ℕ → ℕ → Bool) (ws st₀ : List �
       pub cell-inside : 4 * list + 3 < length ws
       cell-inside = term-cell ws list (p .left) z .inside
 
-      module _ (cell : Record) (e : IsRecord ws list cell) where
+      module _ {cell : Record} (e : IsRecord ws list cell) where
         pub element-inside : 4 * (cell .a) + 3 < length ws
         element-inside = rw (e .a-is) (placed-inside _ ws _ (term-cell ws list (p .left) z .element))
 
@@ -87,7 +87,8 @@ module _ (Held : ℕ → Type 0) (so : ℕ → ℕ → Bool) (ws st₀ : List �
         pub one-cell : among-terms ws list ≡ min (offence enough ws (cell .a)) (among-terms ws (cell .b))
         one-cell = rw (e .a-is, e .b-is) (among-cell ws list (p .left) z)
 
-        passed-on : (y : ℕ) (st₁ : List ℕ) (low₁ : ℕ) → Held y → so list rest ≡ so (cell .b) y → length st₁ ≡ length st → binders st₁ d ≡ binders st d → low₁ ≡ min low (offence enough ws (cell .a))
+        passed-on : (y : ℕ) (st₁ : List ℕ) (low₁ : ℕ) → Held y → so list rest ≡ so (cell .b) y → length st₁ ≡ length st
+            → binders st₁ d ≡ binders st d → low₁ ≡ min low (offence enough ws (cell .a))
             → Passed Held so ws st₀ low₀ d l x st₁ low₁ (cell .b) y
         passed-on y st₁ low₁ h s n k o =
             let fall = rest-less in
@@ -142,20 +143,20 @@ pub record Counting (ws st₀ : List ℕ) (low₀ d l head : ℕ) (st : List ℕ
   pub more : left ≡ 0 → ⊥
 
 pub counting-first : (ws st : List ℕ) (low d l head count : ℕ) → ListAsks ws st low d l head count → Counting ws st low d l head st low l head count
-counting-first ws st low d l head count a = record { passed = passed-none _ _ _ _ _ _ _ _ (a .asks); some = a .some; counted = a .counted; more = a .more }
+counting-first ws st low d l head count a = record { passed = passed-none (a .asks); some = a .some; counted = a .counted; more = a .more }
 
 module _ {ws st₀ : List ℕ} {low₀ d l head : ℕ} {st : List ℕ} {low list rest left : ℕ} (p : Counting ws st₀ low₀ d l head st low list rest left) where
   pub head-inside : 4 * rest + 3 < length ws
   head-inside = placed-inside _ ws rest (p .passed .held)
 
   pub list-inside : 4 * list + 3 < length ws
-  list-inside = cell-inside _ _ _ _ _ _ _ _ _ _ _ _ (p .passed) (p .some)
+  list-inside = cell-inside (p .passed) (p .some)
 
   pub left-some : 1 ≤ left
   left-some = let z = p .more in omega arith
 
   arrow : tag ws rest ≡ AR
-  arrow = asks-arrow ws rest (p .passed .held) (λ e. p .more (p .counted ∙ e))
+  arrow = asks-arrow (p .passed .held) (λ e. p .more (p .counted ∙ e))
 
   stops : (st₁ : List ℕ) (low₁ : ℕ) → binders st₁ d ≡ binders st d → takes ws (binders st₀ d) list rest ≡ false → Leaves ws st₀ low₀ d l head st₁ low₁ Fails
   unfolding Leaves
@@ -170,11 +171,11 @@ module _ {ws st₀ : List ℕ} {low₀ d l head : ℕ} {st : List ℕ} {low list
 
     -- one argument less is asked of the rest
     fewer : left - 1 ≡ length (domains enough ws (t .b))
-    fewer = let c = rw (domains-arrow ws rest (p .passed .held) arrow, ← i .b-is) at (p .counted) in omega arith
+    fewer = let c = rw (domains-arrow (p .passed .held) arrow, ← i .b-is) at (p .counted) in omega arith
 
     turn : takes ws (binders st₀ d) list rest ≡ both (checks enough ws (binders st₀ d) (cell .a) (t .a)) (takes ws (binders st₀ d) (cell .b) (t .b))
     unfolding takes each
-    turn = rw (term-cell ws list (p .passed .left) (p .some) .reads, domains-arrow ws rest (p .passed .held) arrow, e .a-is, e .b-is, i .a-is, i .b-is)
+    turn = rw (term-cell ws list (p .passed .left) (p .some) .reads, domains-arrow (p .passed .held) arrow, e .a-is, e .b-is, i .a-is, i .b-is)
 
     rest-list : ListAt (isTerm ws) ws (cell .b)
     rest-list = rw (e .b-is) (term-cell ws list (p .passed .left) (p .some) .rest)
@@ -189,12 +190,12 @@ module _ {ws st₀ : List ℕ} {low₀ d l head : ℕ} {st : List ℕ} {low list
     unfolding Leaves
     last-remains z n =
         let none = among-end ws (cell .b) n in
-        let less = element-less _ _ _ _ _ _ _ _ _ _ _ _ (p .passed) (p .some) cell e _ refl in
+        let less = element-less (p .passed) (p .some) e _ refl in
         let few = p .passed .few in
         let lowest = p .passed .lowest in
-        let one = one-cell _ _ _ _ _ _ _ _ _ _ _ _ (p .passed) (p .some) cell e in
+        let one = one-cell (p .passed) (p .some) e in
         record {
-          asks = element-asks _ _ _ _ _ _ _ _ _ _ _ _ (p .passed) (p .some) cell e (t .a) domain-type;
+          asks = element-asks (p .passed) (p .some) e (t .a) domain-type;
           lower = omega arith;
           keeps = p .passed .keeps;
           same = p .passed .same ∙ turn ∙ rw (takes-none ws (binders st₀ d) (cell .b) (t .b) n, ← fewer, eq-eqb _ _ z, both-yes, p .passed .keeps);
@@ -202,23 +203,24 @@ module _ {ws st₀ : List ℕ} {low₀ d l head : ℕ} {st : List ℕ} {low list
         }
 
     pub argument-asks : TermAsks ws st low d (cell .a) (t .a)
-    argument-asks = element-asks _ _ _ _ _ _ _ _ _ _ _ _ (p .passed) (p .some) cell e (t .a) domain-type
+    argument-asks = element-asks (p .passed) (p .some) e (t .a) domain-type
 
     pub argument-less : (k : ℕ) → 2 * size l ≡ k → 2 * (cell .a) + 2 < k
-    argument-less k h = element-less _ _ _ _ _ _ _ _ _ _ _ _ (p .passed) (p .some) cell e k h
+    argument-less k h = element-less (p .passed) (p .some) e k h
 
     pub cells-less : size (cell .b) < size list
-    cells-less = rest-less _ _ _ _ _ _ _ _ _ _ _ _ (p .passed) (p .some) cell e
+    cells-less = rest-less (p .passed) (p .some) e
 
     module _ {st₁ : List ℕ} {low₁ : ℕ} {b : Bool} (h : Told d (checks enough ws (binders st d) (cell .a) (t .a)) (offence enough ws (cell .a)) st low st₁ low₁ b) where
       pub argument-fails : not b ≡ true → Leaves ws st₀ low₀ d l head st₁ low₁ Fails
       unfolding both
       argument-fails f = stops st₁ low₁ (h .keeps) (turn ∙ rw (← p .passed .keeps, ← h .says, not-true b f))
 
-      pub argument-checks : length st₁ ≡ length st → (left - 1 ≡ 0 → ⊥) → (cell .b ≡ NONE → ⊥) → not b ≡ false → Counting ws st₀ low₀ d l head st₁ low₁ (cell .b) (t .b) (left - 1)
+      pub argument-checks : length st₁ ≡ length st → (left - 1 ≡ 0 → ⊥) → (cell .b ≡ NONE → ⊥) → not b ≡ false
+          → Counting ws st₀ low₀ d l head st₁ low₁ (cell .b) (t .b) (left - 1)
       unfolding both
       argument-checks n z m f = record {
-        passed = passed-on _ _ _ _ _ _ _ _ _ _ _ _ (p .passed) (p .some) cell e (t .b) st₁ low₁ result-type
+        passed = passed-on (p .passed) (p .some) e (t .b) st₁ low₁ result-type
             (turn ∙ rw (← p .passed .keeps, ← h .says, not-false b f)) n (h .keeps) (h .lowest (not-false _ f));
         some = m;
         counted = fewer;
@@ -227,10 +229,14 @@ module _ {ws st₀ : List ℕ} {low₀ d l head : ℕ} {st : List ℕ} {low list
 
 -- Held to a context
 
-module _ (ws st₀ : List ℕ) (low₀ d l context : ℕ) (st : List ℕ) (low list rest : ℕ) (p : Passed (ListAt (isType ws) ws) (filled ws (binders st₀ d)) ws st₀ low₀ d l context st low list rest) where
+-- the first arguments fill the first types of the context
+abbrev pub Filling : List ℕ → List ℕ → ℕ → ℕ → ℕ → ℕ → List ℕ → ℕ → ℕ → ℕ → Type 0
+Filling ws st₀ low₀ d l context st low list rest = Passed (ListAt (isType ws) ws) (filled ws (binders st₀ d)) ws st₀ low₀ d l context st low list rest
+
+module _ {ws st₀ : List ℕ} {low₀ d l context : ℕ} {st : List ℕ} {low list rest : ℕ} (p : Filling ws st₀ low₀ d l context st low list rest) where
   pub context-ends : list ≡ NONE → Told d (filled ws (binders st₀ d) l context) (among-terms ws l) st₀ low₀ st low (eqb rest NONE)
   unfolding filled each
-  context-ends n = ends _ (filled ws (binders st₀ d)) _ _ _ _ _ _ _ _ _ _ p _ n (go (ℕ-discrete rest NONE))
+  context-ends n = ends p _ n (go (ℕ-discrete rest NONE))
     where
       go : Dec (rest ≡ NONE) → eqb rest NONE ≡ filled ws (binders st₀ d) list rest
       go (yes e) = rw (elements-none ws list n, elements-none ws rest e, eq-eqb _ _ e)
@@ -240,14 +246,14 @@ module _ (ws st₀ : List ℕ) (low₀ d l context : ℕ) (st : List ℕ) (low l
     pub context-short : rest ≡ NONE → Told d (filled ws (binders st₀ d) l context) (among-terms ws l) st₀ low₀ st low false
     unfolding filled each
     context-short n =
-        refuses _ (filled ws (binders st₀ d)) _ _ _ _ _ _ _ _ _ _ p st low refl
+        refuses p st low refl
         (rw (term-cell ws list (p .left) z .reads, elements-none ws rest n))
 
     module _ (y : rest ≡ NONE → ⊥) where
       pub context-inside : 4 * rest + 3 < length ws
       context-inside = type-cell ws rest (p .held) y .inside
 
-      module _ (t cell : Record) (i : IsRecord ws rest t) (e : IsRecord ws list cell) where
+      module _ {t cell : Record} (i : IsRecord ws rest t) (e : IsRecord ws list cell) where
         pub context-type : TypeAt ws (t .a)
         context-type = rw (i .a-is) (type-cell ws rest (p .held) y .element)
 
@@ -255,31 +261,31 @@ module _ (ws st₀ : List ℕ) (low₀ d l context : ℕ) (st : List ℕ) (low l
         unfolding filled each
         filling = rw (term-cell ws list (p .left) z .reads, type-cell ws rest (p .held) y .reads, e .a-is, e .b-is, i .a-is, i .b-is, p .keeps)
 
-        module _ (m : Bool) (g : m ≡ named ws (binders st d) (cell .a) (t .a)) where
-          pub bare-fills : not m ≡ false → Passed (ListAt (isType ws) ws) (filled ws (binders st₀ d)) ws st₀ low₀ d l context st low (cell .b) (t .b)
+        module _ {m : Bool} (g : m ≡ named ws (binders st d) (cell .a) (t .a)) where
+          pub bare-fills : not m ≡ false → Filling ws st₀ low₀ d l context st low (cell .b) (t .b)
           unfolding both
           bare-fills f =
               let so : named ws (binders st d) (cell .a) (t .a) ≡ true = sym g ∙ not-false _ f in
-              let term = element-asks _ _ _ _ _ _ _ _ _ _ _ _ p z cell e (t .a) context-type .term in
+              let term = element-asks p z e (t .a) context-type .term in
               let none = bare-offence ws (cell .a) term (named-bare _ _ _ _ so) in
               let few = p .few in
-              passed-on _ _ _ _ _ _ _ _ _ _ _ _ p z cell e (t .b) st low
+              passed-on p z e (t .b) st low
               (rw (i .b-is) (type-cell ws rest (p .held) y .rest))
               (filling ∙ rw (named-fills ws (binders st d) (cell .a) (t .a) so)) refl refl (omega arith)
 
-          module _ (o : not m ≡ true) (st₁ : List ℕ) (low₁ : ℕ) (b : Bool) (h : Told d (checks enough ws (binders st d) (cell .a) (t .a)) (offence enough ws (cell .a)) st low st₁ low₁ b) where
+          module _ (o : not m ≡ true) {st₁ : List ℕ} {low₁ : ℕ} {b : Bool} (h : Told d (checks enough ws (binders st d) (cell .a) (t .a)) (offence enough ws (cell .a)) st low st₁ low₁ b) where
             held-to : fills (checks enough ws) ws (binders st d) (cell .a) (t .a) ≡ b
             held-to = other-fills ws (binders st d) (cell .a) (t .a) (sym g ∙ not-true _ o) ∙ sym (h .says)
 
             pub filling-fails : not b ≡ true → Told d (filled ws (binders st₀ d) l context) (among-terms ws l) st₀ low₀ st₁ low₁ false
             unfolding both
             filling-fails f =
-                refuses _ (filled ws (binders st₀ d)) _ _ _ _ _ _ _ _ _ _ p st₁ low₁ (h .keeps)
+                refuses p st₁ low₁ (h .keeps)
                 (filling ∙ rw (held-to, not-true b f))
 
-            pub filling-checks : length st₁ ≡ length st → not b ≡ false → Passed (ListAt (isType ws) ws) (filled ws (binders st₀ d)) ws st₀ low₀ d l context st₁ low₁ (cell .b) (t .b)
+            pub filling-checks : length st₁ ≡ length st → not b ≡ false → Filling ws st₀ low₀ d l context st₁ low₁ (cell .b) (t .b)
             unfolding both
             filling-checks n f =
-                passed-on _ _ _ _ _ _ _ _ _ _ _ _ p z cell e (t .b) st₁ low₁
+                passed-on p z e (t .b) st₁ low₁
                 (rw (i .b-is) (type-cell ws rest (p .held) y .rest))
                 (filling ∙ rw (held-to, not-false b f)) n (h .keeps) (h .lowest (not-false _ f))

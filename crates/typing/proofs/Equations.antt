@@ -60,7 +60,9 @@ module _ (ws st : List ℕ) (low e : ℕ) (p : EquationAsks ws st low e) where
       unfolding typed both binders
       left-fails t = record { says = rw (← i .a-is, ← i .b-is, ← i .c-is, ← h .says, t); lowest = λ f. absurd (false-true (sym f)) }
 
-      pub right-says : (st₂ : List ℕ) (low₂ : ℕ) (y : Bool) → b ≡ true → Told 0 (checks enough ws (binders st₁ 0) (x .b) (x .c)) (offence enough ws (x .b)) st₁ low₁ st₂ low₂ y → Offends ws e low low₂ (not y)
+      pub right-says : (st₂ : List ℕ) (low₂ : ℕ) (y : Bool) → b ≡ true
+          → Told 0 (checks enough ws (binders st₁ 0) (x .b) (x .c)) (offence enough ws (x .b)) st₁ low₁ st₂ low₂ y
+          → Offends ws e low low₂ (not y)
       unfolding typed both binders sides
       right-says st₂ low₂ y t g =
           let q = h .lowest t in

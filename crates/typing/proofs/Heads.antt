@@ -30,7 +30,7 @@ all ws = take-all (length ws - 0) ws (omega arith)
 pub type-lent : (ws : List ℕ) (ty : ℕ) → TypeAt ws ty → TypeAt (whole ws) ty
 type-lent ws ty p = rw (all ws) p
 
-module _ (ws : List ℕ) (ty : ℕ) (p : TypeAt ws ty) where
+module _ {ws : List ℕ} {ty : ℕ} (p : TypeAt ws ty) where
   final-arrow : tag ws ty ≡ AR → finalType enough ws ty ≡ finalType enough ws (fieldB ws ty)
   unfolding has
   final-arrow e = final-unrolled ws (p .top) (p .legal) ty (p .low) ∙ rw e
@@ -43,7 +43,7 @@ module _ (ws : List ℕ) (ty : ℕ) (p : TypeAt ws ty) where
   unfolding has
   domains-base z = domains-unrolled ws (p .top) (p .legal) ty (p .low) ∙ rw (ne-eqb _ _ z)
 
-  module _ (x : Record) (j : IsRecord ws ty x) where
+  module _ {x : Record} (j : IsRecord ws ty x) where
     pub final-here : (x .tag ≡ AR → ⊥) → IsFinal ws ty (record { base = ty; count = 0 })
     unfolding has
     final-here z = let n : tag ws ty ≡ AR → ⊥ = λ e. z (j .tag-is ∙ e) in record {
@@ -62,8 +62,8 @@ module _ (ws : List ℕ) (ty : ℕ) (p : TypeAt ws ty) where
       result-type : TypeAt ws (x .b)
       result-type = rw (j .b-is) (result-at ws ty p arrow)
 
-      final-more : (f : Final) → IsFinal ws (x .b) f → IsFinal ws ty (record { base = f .base; count = f .count + 1 })
-      final-more f i =
+      final-more : {f : Final} → IsFinal ws (x .b) f → IsFinal ws ty (record { base = f .base; count = f .count + 1 })
+      final-more i =
           let lo = result-less in
           let few = i .few in
           let n = i .count-is in
@@ -74,37 +74,37 @@ module _ (ws : List ℕ) (ty : ℕ) (p : TypeAt ws ty) where
           }
 
 -- a type that asks arguments is an arrow
-pub asks-arrow : (ws : List ℕ) (ty : ℕ) → TypeAt ws ty → (length (domains enough ws ty) ≡ 0 → ⊥) → tag ws ty ≡ AR
-asks-arrow ws ty p z = go (ℕ-discrete (tag ws ty) AR)
+pub asks-arrow : {ws : List ℕ} {ty : ℕ} → TypeAt ws ty → (length (domains enough ws ty) ≡ 0 → ⊥) → tag ws ty ≡ AR
+asks-arrow {ws} {ty} p z = go (ℕ-discrete (tag ws ty) AR)
   where
     go : Dec (tag ws ty ≡ AR) → tag ws ty ≡ AR
     go (yes e) = e
-    go (no n) = absurd (z (rw (domains-base ws ty p n)))
+    go (no n) = absurd (z (rw (domains-base p n)))
 
 -- two arrows, one after the other
-module _ (ws : List ℕ) (ty : ℕ) (p : TypeAt ws ty) (x : Record) (j : IsRecord ws ty x) (e : x .tag ≡ AR) where
+module _ {ws : List ℕ} {ty : ℕ} (p : TypeAt ws ty) {x : Record} (j : IsRecord ws ty x) (e : x .tag ≡ AR) where
   pub result-inside : 4 * (x .b) + 3 < length ws
-  result-inside = placed-inside _ ws _ (result-type ws ty p x j e)
+  result-inside = placed-inside _ ws _ (result-type p j e)
 
-  module _ (y : Record) (k : IsRecord ws (x .b) y) where
+  module _ {y : Record} (k : IsRecord ws (x .b) y) where
     pub final-one : (y .tag ≡ AR → ⊥) → IsFinal ws ty (record { base = x .b; count = 1 })
-    final-one z = final-more ws ty p x j e _ (final-here ws (x .b) (result-type ws ty p x j e) y k z)
+    final-one z = final-more p j e (final-here (result-type p j e) k z)
 
     module _ (d : y .tag ≡ AR) where
       pub second-less : (n : ℕ) → ty ≡ n → y .b < n
-      second-less n is = let a = result-less ws ty p x j e in let b = result-less ws (x .b) (result-type ws ty p x j e) y k d in omega arith
+      second-less n is = let a = result-less p j e in let b = result-less (result-type p j e) k d in omega arith
 
       pub second-type : TypeAt ws (y .b)
-      second-type = result-type ws (x .b) (result-type ws ty p x j e) y k d
+      second-type = result-type (result-type p j e) k d
 
-      module _ (f : Final) (i : IsFinal (whole ws) (y .b) f) where
+      module _ {f : Final} (i : IsFinal (whole ws) (y .b) f) where
         pub final-room : f .count < 4096
         final-room = let few = i .few in let lo = second-less ty refl in let top = placed-few _ ws ty p in omega arith
 
         pub final-two : IsFinal ws ty (record { base = f .base; count = f .count + 2 })
         final-two =
             let q : f .count + 1 + 1 ≡ f .count + 2 = omega arith in
-            rw q at (final-more ws ty p x j e _ (final-more ws (x .b) (result-type ws ty p x j e) y k d f (rw (all ws) at i)))
+            rw q at (final-more p j e (final-more (result-type p j e) k d (rw (all ws) at i)))
 
 -- a rigid head's type is its variable's, or its constant's
 module _ (ws ctx : List ℕ) (x : Record) where

@@ -78,8 +78,11 @@ module _ {ws st₀ : List ℕ} {low₀ d₀ r ty : ℕ} {st : List ℕ} {low d a
   answers so b off low₁ st₁ e o h = answered b low₁ st₁ (rw (sym (p .same) ∙ one ∙ e, o) h)
 
   -- a lower term, whose check is that of the term in hand, is the next in hand
-  goes-on : (st₁ : List ℕ) (low₁ d₁ at₁ term₁ : ℕ) → TermAsks ws st₁ low₁ d₁ term₁ at₁ → length st₁ ≡ length st → term₁ < term → ((e : List ℕ) → binders e d₁ ≡ binders st₁ d₁ → binders e d ≡ binders st d)
-      → here ≡ checks enough ws (binders st₁ d₁) term₁ at₁ → min low (offence enough ws term) ≡ min low₁ (offence enough ws term₁) → InHand ws st₀ low₀ d₀ r ty st₁ low₁ d₁ at₁ term₁
+  goes-on : (st₁ : List ℕ) (low₁ d₁ at₁ term₁ : ℕ) → TermAsks ws st₁ low₁ d₁ term₁ at₁ → length st₁ ≡ length st → term₁ < term
+      → ((e : List ℕ) → binders e d₁ ≡ binders st₁ d₁ → binders e d ≡ binders st d)
+      → here ≡ checks enough ws (binders st₁ d₁) term₁ at₁
+      → min low (offence enough ws term) ≡ min low₁ (offence enough ws term₁)
+      → InHand ws st₀ low₀ d₀ r ty st₁ low₁ d₁ at₁ term₁
   goes-on st₁ low₁ d₁ at₁ term₁ a n less k s o =
       let lower = p .lower in
       record { asks = a; same-length = n ∙ p .same-length; lower = omega arith; keeps = λ e q. p .keeps e (k e q); same = one ∙ s; lowest = p .lowest ∙ o }
@@ -269,7 +272,8 @@ module _ {ws st₀ : List ℕ} {low₀ d₀ r ty : ℕ} {st : List ℕ} {low d a
               (record { says = refl; keeps = refl; lowest = λ t. omega arith }))
           go (no e) = rw (ne-eqb _ _ e) (refuses p (taking ∙ takes-more ws (binders st d) (x .b) h (g .asks .list) e (sym (i .count-is) ∙ z)))
 
-module _ {ws st₀ : List ℕ} {low₀ d₀ r ty : ℕ} {st : List ℕ} {low d at term : ℕ} {p : InHand ws st₀ low₀ d₀ r ty st low d at term} {x : Record} {h : ℕ} {g : Headed p x h} {k : ℕ} {f : Final} (a : Asking g k f) where
+module _ {ws st₀ : List ℕ} {low₀ d₀ r ty : ℕ} {st : List ℕ} {low d at term : ℕ} {p : InHand ws st₀ low₀ d₀ r ty st low d at term}
+    {x : Record} {h : ℕ} {g : Headed p x h} {k : ℕ} {f : Final} (a : Asking g k f) where
   takes-list : here p ≡ takes ws (binders st d) (x .b) h
   takes-list = taking g (a .final) (a .base)
 

@@ -2,16 +2,11 @@
 use borrow.Author.Needs.{needs}
 use native.Mathlib.Omega.{arith}
 use Prim.Native.Nat.{ℕ, _<_, _+_, _*_}
-use mathlib.Core.Path.{_≡_}
-use Rattle.rules.specs.Words.{NONE, isType}
 use Rattle.laws.specs.Lists.{size}
-use Rattle.laws.specs.Places.{TypeAt, ListAt}
-use Rattle.typing.specs.Stack.{binders}
-use Rattle.typing.specs.Asks.{filled}
-use Rattle.typing.proofs.Arguments.{Passed, passed-none, cell-inside, element-inside, stack-holds as list-stack-holds, rest-less, element-less, element-asks}
+use Rattle.typing.proofs.Arguments.{passed-none, cell-inside, element-inside, stack-holds as list-stack-holds, rest-less, element-less, element-asks}
 use Rattle.typing.proofs.Arguments.{Counting, counting-first, head-inside as type-of-head-inside, list-inside, left-some, too-many, too-short, last-remains}
 use Rattle.typing.proofs.Arguments.{argument-asks, argument-less, cells-less, argument-fails, argument-checks}
-use Rattle.typing.proofs.Arguments.{context-ends, context-short, context-inside, context-type, bare-fills, filling-fails, filling-checks}
+use Rattle.typing.proofs.Arguments.{Filling, context-ends, context-short, context-inside, context-type, bare-fills, filling-fails, filling-checks}
 use Rattle.typing.proofs.Terms.{InHand, hand-first, answered, term-inside, room-left, stack-holds, hole-less, tagged, body-less, no-arrow, body-next}
 use Rattle.typing.proofs.Terms.{hole-inside, hole-list, fills-less, other-type, hole-asks, hole-told}
 use Rattle.typing.proofs.Terms.{head-inside, head-free, Headed, headed, other-base, none-asked}
@@ -95,8 +90,7 @@ abbrev check-args-μ-loop : check-args-lts.MeasureT-loop
 check-args-μ-loop table stack₀ low₀ depth l head count list₀ rest₀ left₀ stack low list rest left = size list
 
 abbrev check-fills-Inv-loop : check-fills-lts.InvT-loop
-check-fills-Inv-loop table stack₀ low₀ depth l context list₀ rest₀ stack low list rest =
-    Passed (ListAt (isType table) table) (filled table (binders stack₀ depth)) table stack₀ low₀ depth l context stack low list rest
+check-fills-Inv-loop table stack₀ low₀ depth l context list₀ rest₀ stack low list rest = Filling table stack₀ low₀ depth l context stack low list rest
 
 abbrev check-fills-μ-loop : check-fills-lts.MeasureT-loop
 check-fills-μ-loop table stack₀ low₀ depth l context list₀ rest₀ stack low list rest = size list

@@ -20,4 +20,13 @@ returns-2 c = sym (type-free (binders (now (c .before .before .args .stack)) (c 
 
 pub type-of-spec : {M : Type 1} → statement M
 type-of-spec =
-    tie.close (tie.spec (λ c. search needs) (λ c. search needs) (λ c. search needs) (λ c. search needs) (λ c. search needs) (λ c. omega (arith, c .shared-slice-known .given (c .before .before .before .args .depth - 1 - c .before .before .before .args .v .0))) returns returns-2)
+    tie.close
+    (tie.spec
+    (λ c. search needs)
+    (λ c. search needs)
+    (λ c. search needs)
+    (λ c. search needs)
+    (λ c. search needs)
+    (λ c. let a = c .before .before .before .args in omega (arith, c .shared-slice-known .given (a .depth - 1 - a .v .0)))
+    returns
+    returns-2)
