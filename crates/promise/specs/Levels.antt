@@ -9,7 +9,7 @@ use lib.Dec.{ltb}
 use borrow.Author.Tests.{lt-ltb, le-ltb}
 use Rattle.rules.specs.Store.{Store}
 use Rattle.trees.specs.Tree.{Tree, nil, Holes}
-use Rattle.trees.specs.Statements.{follow, Expansion}
+use Rattle.trees.specs.Statements.{expandAt, Expansion}
 use Rattle.trees.specs.Filling.{Holes-both, Holes-map, inst-agree}
 use Rattle.trees.specs.Order.{Ranked}
 use Rattle.promise.specs.Table.{holes, solutionOf, expanded, filling}
@@ -78,13 +78,13 @@ module _ (s : Store) (r : ℕ → ℕ) (w : Ranked r (solutionOf s)) (solved-low
   unfolding expanded level
   expanded-is zero h l = go (solutionOf s h) refl ∙ sym (x h)
     where
-      go : (o : Option Tree) → solutionOf s h ≡ o → follow (holes (s .words) (s .used)) (λ g. nil) none h ≡ follow (holes (s .words) (s .used)) F o h
+      go : (o : Option Tree) → solutionOf s h ≡ o → expandAt (holes (s .words) (s .used)) (λ g. nil) none h ≡ expandAt (holes (s .words) (s .used)) F o h
       go none e = refl
       go (some t) e = absurd (let z = l t e in omega arith)
   expanded-is (suc k) h l = go (solutionOf s h) refl (λ g m. expanded-is k g m) ∙ sym (x h)
     where
       go : (o : Option Tree) → solutionOf s h ≡ o → ((g : ℕ) → ((t : Tree) → solutionOf s g ≡ some t → level g < k) → expanded k s g ≡ F g)
-          → follow (holes (s .words) (s .used)) (λ g. expanded k s g) o h ≡ follow (holes (s .words) (s .used)) F o h
+          → expandAt (holes (s .words) (s .used)) (λ g. expanded k s g) o h ≡ expandAt (holes (s .words) (s .used)) F o h
       go none e ih = refl
       go (some t) e ih =
           inst-agree (λ g. expanded k s g) F t

@@ -10,7 +10,7 @@ use Rattle.rules.specs.Store.{Store, solved, solution}
 use Rattle.rules.specs.Machine.{Pair, equations}
 use Rattle.trees.specs.Tree.{Ty, base, arr, Tree, lam, con, var, hol, nil, cons, Sig, Pairs}
 use Rattle.trees.specs.Moves.{Solutions}
-use Rattle.trees.specs.Statements.{follow}
+use Rattle.trees.specs.Statements.{expandAt}
 
 -- the type that record r is; fuel bounds its nesting, since references go to lower records
 unfoldable pub typeAt : ℕ → List ℕ → ℕ → Ty
@@ -61,8 +61,8 @@ solutionOf s h = elim (both (ltb h (s .used)) (solved s h)) [ true ↦ some (tre
 
 -- each hole its solution with k levels of solved holes expanded, an unsolved hole itself
 unfoldable pub expanded : ℕ → Store → ℕ → Tree
-expanded zero s h = follow (holes (s .words) (s .used)) (λ g. nil) none h
-expanded (suc k) s h = follow (holes (s .words) (s .used)) (λ g. expanded k s g) (solutionOf s h) h
+expanded zero s h = expandAt (holes (s .words) (s .used)) (λ g. nil) none h
+expanded (suc k) s h = expandAt (holes (s .words) (s .used)) (λ g. expanded k s g) (solutionOf s h) h
 
 -- the run's filling: each hole its solution with all solved holes expanded, of which no more stand one inside another than there are records
 unfoldable pub filling : Store → ℕ → Tree

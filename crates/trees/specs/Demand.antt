@@ -7,7 +7,7 @@ use Prim.Native.Nat.{ℕ}
 use lib.ListN.{length}
 use Rattle.trees.specs.Tree.{Ty, Tree, lam, con, var, hol, nil, cons, inst, Holes, Occurs, Distinct, Sig, Pairs, Equates, PairsTyped, Fills, Leaves}
 use Rattle.trees.specs.Moves.{Solutions, nothing, Keeps, Leads, NoneFrozen, FrozenIn}
-use Rattle.trees.specs.Statements.{Expansion, Left, MostGeneral}
+use Rattle.trees.specs.Statements.{Expansion, Remains, Principal}
 use Rattle.trees.specs.Free.{Scoped}
 use Rattle.trees.specs.Filling.{Holes-map, Holes-both}
 use Rattle.trees.specs.Narrow.{narrow-unique}
@@ -53,7 +53,7 @@ module _ (S : ℕ → Option Ty) (Frozen : ℕ → Type 0) where
 
   -- SOLVED
   pub run-solved : (D : Sig) (ps : Pairs) (E : Sig) (τ : Solutions) (F : ℕ → Tree) → Leads S Frozen D nothing ps E τ [] → Expansion E τ F
-      → MostGeneral S D ps E F
+      → Principal S D ps E F
   run-solved D ps E τ F run x = record {
     typed = filled;
     unifies = run .back E F filled keeps tt;
@@ -90,7 +90,7 @@ module _ (S : ℕ → Option Ty) (Frozen : ℕ → Type 0) where
 
   -- the holes left are not solved
   pub run-left : (D : Sig) (ps : Pairs) (E : Sig) (τ : Solutions) (F : ℕ → Tree) → Leads S Frozen D nothing ps E τ [] → Expansion E τ F
-      → (g : ℕ) → Left D F g → τ g ≡ none
+      → (g : ℕ) → Remains D F g → τ g ≡ none
   run-left D ps E τ F run x g (h, c, q, o) =
       let r = stamped-ranked τ (run .good .2) in
       at-occurs (λ i. τ i ≡ none) g (F h) (expansion-left S E τ (r .0) F (run .good .0) (r .1) x h) o
@@ -110,8 +110,8 @@ pub run-none : (S : ℕ → Option Ty) (D : Sig) (ps : Pairs) (E : Sig) (τ : So
 run-none S D ps E τ qs run k X θ f e = run-stuck S NoneFrozen D ps E τ qs (λ h z. absurd z) run k X θ f (λ h C b z _. absurd z) e
 
 -- THE ORDER of the equations does not matter
-pub general-perm : (S : ℕ → Option Ty) (D : Sig) (ps qs : Pairs) (E : Sig) (F : ℕ → Tree) → List·Permᴰ ps qs → MostGeneral S D ps E F
-    → MostGeneral S D qs E F
+pub general-perm : (S : ℕ → Option Ty) (D : Sig) (ps qs : Pairs) (E : Sig) (F : ℕ → Tree) → List·Permᴰ ps qs → Principal S D ps E F
+    → Principal S D qs E F
 general-perm S D ps qs E F d m = record {
   typed = m .typed;
   unifies = each-perm (λ a b. inst F a ≡ inst F b) d (m .unifies);

@@ -8,7 +8,7 @@ use native.Mathlib.Decide.{ℕ-discrete}
 use native.Mathlib.Omega.{arith}
 use Rattle.trees.specs.Tree.{Ty, base, arr, Tree, lam, con, var, hol, nil, cons, ren, nth, Distinct, Sig, v-nil, v-cons, at, HasTy, t-lam, t-con, t-var, t-hol, t-nil, t-cons, Pairs, PairsTyped}
 use Rattle.trees.specs.Moves.{Solutions, nothing, move-lam, move-swap, move-drop, move-expand, Run, run-done, run-step, Def, Covers, Walk, w-con, w-var, w-nil, w-cons, w-kept, w-narrowed, NoneFrozen}
-use Rattle.trees.specs.Statements.{Expansion, MostGeneral}
+use Rattle.trees.specs.Statements.{Expansion, Principal}
 use Rattle.trees.specs.Update.{update, adds-update}
 use Rattle.trees.specs.Leads.{run-trans, run-same}
 use Rattle.trees.specs.Read.{back, back-inverts}
@@ -51,7 +51,7 @@ record Solved (D : Sig) (ps : Pairs) (u : Tree) : Type 0 where
 
 -- the equations have a most general unifier that gives U the tree u
 abbrev Answer : Sig → Pairs → Tree → Type 0
-Answer D ps u = (E : Sig) × (F : ℕ → Tree) × MostGeneral S D ps E F × (F 0 ≡ u)
+Answer D ps u = (E : Sig) × (F : ℕ → Tree) × Principal S D ps E F × (F 0 ≡ u)
 
 answered : {D : Sig} {ps : Pairs} {u : Tree} → Solved D ps u → Answer D ps u
 answered {D} {ps} e =

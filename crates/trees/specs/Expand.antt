@@ -7,7 +7,7 @@ use native.Mathlib.Omega.{arith}
 use lib.ListN.{length}
 use Rattle.trees.specs.Tree.{Ty, base, Tree, lam, con, var, hol, nil, cons, lift, ren, nth, inst, Holes, Sig, at, HasTy, t-hol, FillsAt, Fills, itself}
 use Rattle.trees.specs.Moves.{Solutions, Keeps, Stamped, SolTyped}
-use Rattle.trees.specs.Statements.{alone, follow, Expansion}
+use Rattle.trees.specs.Statements.{alone, expandAt, Expansion}
 use Rattle.trees.specs.Filling.{Holes-map, Holes-both, inst-inst, inst-agree, upto-distinct, inst-itself}
 use Rattle.trees.specs.Typing.{vars-all, Declared, inst-typed, typed-scoped, typed-holes, fills-suits}
 use Rattle.trees.specs.Order.{Ranked, stamped-ranked}
@@ -16,7 +16,7 @@ use Rattle.trees.specs.Leads.{declared-once}
 -- with a rank there is one expansion
 abbrev pub resolve : Sig → Solutions → ℕ → ℕ → Tree
 resolve D σ zero h = alone (D h) h
-resolve D σ (suc k) h = follow D (resolve D σ k) (σ h) h
+resolve D σ (suc k) h = expandAt D (resolve D σ k) (σ h) h
 
 module _ (D : Sig) (σ : Solutions) (r : ℕ → ℕ) (w : Ranked r σ) where
   resolve-stable : (k m h : ℕ) → r h < k → r h < m → resolve D σ k h ≡ resolve D σ m h
@@ -25,7 +25,7 @@ module _ (D : Sig) (σ : Solutions) (r : ℕ → ℕ) (w : Ranked r σ) where
   resolve-stable (suc k) (suc m) h i j = go (σ h) refl (λ g x. resolve-stable k m g (omega arith) (omega arith))
     where
       go : (o : Option Tree) → σ h ≡ o → ((g : ℕ) → r g < r h → resolve D σ k g ≡ resolve D σ m g)
-          → follow D (resolve D σ k) o h ≡ follow D (resolve D σ m) o h
+          → expandAt D (resolve D σ k) o h ≡ expandAt D (resolve D σ m) o h
       go none e ih = refl
       go (some s) e ih = inst-agree (resolve D σ k) (resolve D σ m) s (Holes-map (λ g _ x. ih g x) s (w h s e))
 
@@ -35,7 +35,7 @@ module _ (D : Sig) (σ : Solutions) (r : ℕ → ℕ) (w : Ranked r σ) where
   expand-is : Expansion D σ expand
   expand-is h = go (σ h) refl
     where
-      go : (o : Option Tree) → σ h ≡ o → follow D (resolve D σ (r h)) o h ≡ follow D expand o h
+      go : (o : Option Tree) → σ h ≡ o → expandAt D (resolve D σ (r h)) o h ≡ expandAt D expand o h
       go none e = refl
       go (some s) e =
           inst-agree (resolve D σ (r h)) expand s (Holes-map (λ g _ x. resolve-stable (r h) (suc (r g)) g (omega arith) (omega arith)) s (w h s e))
@@ -47,7 +47,7 @@ module _ (D : Sig) (σ : Solutions) (r : ℕ → ℕ) (w : Ranked r σ) where
       go zero h l = absurd (omega arith)
       go (suc k) h l = x h ∙ case (σ h) refl (λ g z. go k g (omega arith)) ∙ sym (y h)
         where
-          case : (o : Option Tree) → σ h ≡ o → ((g : ℕ) → r g < r h → F g ≡ H g) → follow D F o h ≡ follow D H o h
+          case : (o : Option Tree) → σ h ≡ o → ((g : ℕ) → r g < r h → F g ≡ H g) → expandAt D F o h ≡ expandAt D H o h
           case none e ih = refl
           case (some s) e ih = inst-agree F H s (Holes-map (λ g _ z. ih g z) s (w h s e))
 
@@ -58,12 +58,12 @@ pub stamped-expands-once : (D : Sig) (σ : Solutions) → Stamped σ → (F H : 
 stamped-expands-once D σ st = let r = stamped-ranked σ st in expansion-unique D σ (r .0) (r .1)
 
 pub expansion-keeps : (D : Sig) (σ : Solutions) (F : ℕ → Tree) → Expansion D σ F → Keeps F σ
-expansion-keeps D σ F x h s e = x h ∙ ap (λ o. follow D F o h) e
+expansion-keeps D σ F x h s e = x h ∙ ap (λ o. expandAt D F o h) e
 
 -- a hole that is not solved is itself
 pub expansion-alone : (D : Sig) (σ : Solutions) (F : ℕ → Tree) → Expansion D σ F → (h : ℕ) (c : List Ty × ℕ) → σ h ≡ none → D h ≡ some c
     → F h ≡ itself (length (c .0)) h
-expansion-alone D σ F x h c e d = x h ∙ ap (λ o. follow D F o h) e ∙ ap (λ o. alone o h) d
+expansion-alone D σ F x h c e d = x h ∙ ap (λ o. expandAt D F o h) e ∙ ap (λ o. alone o h) d
 
 -- holes of an instance
 ren-holes : (Q : ℕ → Type 0) (f : ℕ → ℕ) (t : Tree) → Holes (λ h _. Q h) t → Holes (λ h _. Q h) (ren f t)
@@ -95,7 +95,7 @@ module _ (S : ℕ → Option Ty) (D : Sig) (σ : Solutions) (r : ℕ → ℕ) (F
           self e none = e
           self e (some c) = e
 
-          case : (o : Option Tree) → σ h ≡ o → ((i : ℕ) → r i < r h → Holes (λ j _. σ j ≡ none) (F i)) → Holes (λ i _. σ i ≡ none) (follow D F o h)
+          case : (o : Option Tree) → σ h ≡ o → ((i : ℕ) → r i < r h → Holes (λ j _. σ j ≡ none) (F i)) → Holes (λ i _. σ i ≡ none) (expandAt D F o h)
           case none e ih = self e (D h)
           case (some s) e ih = inst-holes (λ i. σ i ≡ none) F s (Holes-map (λ i _ z. ih i z) s (w h s e))
 

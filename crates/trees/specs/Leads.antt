@@ -6,7 +6,7 @@ use mathlib.Core.Option.{Option, none, some, Option·none-ne-some, Option·some-
 use Prim.Native.Nat.{ℕ, _<_}
 use lib.ListN.{length}
 use Rattle.trees.specs.Tree.{Ty, base, Tree, lam, con, var, hol, ren, nth, inst, AllL, Holes, Distinct, Sig, Vars, Kind, at, HasTy, t-lam, t-con, t-var, t-hol, t-cons, Pairs, Equates, Both, PairsTyped, Fills}
-use Rattle.trees.specs.Moves.{Solutions, Keeps, Unifies, Stamped, SolTyped, Good, Grows, Adds, Agree, Leads, Spreads, spread-nil, spread-cons, Needs, Says, Move, move-lam, move-con, move-var, move-swap, move-drop, move-expand, move-narrow, move-solve, Run, run-done, run-step, Covers}
+use Rattle.trees.specs.Moves.{Solutions, Keeps, Unifier, Stamped, SolTyped, Good, Grows, Adds, Agree, Leads, Spreads, spread-nil, spread-cons, Needs, Says, Move, move-lam, move-con, move-var, move-swap, move-drop, move-expand, move-narrow, move-solve, Run, run-done, run-step, Covers}
 use Rattle.trees.specs.Free.{unren}
 use Rattle.trees.specs.Filling.{Holes-map, inst-ren, inst-agree}
 use Rattle.trees.specs.Narrow.{narrow-same, narrow-same-back}
@@ -135,8 +135,8 @@ module _ (S : ℕ → Option Ty) (Frozen : ℕ → Type 0) where
   pub new-leads : (D : Sig) (σ : Solutions) (ps : Pairs) (w : ℕ) (B : List Ty) (b : ℕ) (E : Sig) (τ : Solutions) (qs : Pairs) → Good S E τ qs
       → Adds D w (B, b) E → Grows σ τ → ((h : ℕ) → Frozen h → σ h ≡ none → τ h ≡ none)
       → ((X : Sig) (θ : ℕ → Tree) → Fills S E X θ → Keeps θ τ → Equates θ qs → Equates θ ps)
-      → ((X : Sig) (θ : ℕ → Tree) → Fills S D X θ → Unifies θ σ ps
-      → (s : Tree) × HasTy S X B s (at (base b)) × (Agree D θ (update θ w s) → Unifies (update θ w s) τ qs))
+      → ((X : Sig) (θ : ℕ → Tree) → Fills S D X θ → Unifier θ σ ps
+      → (s : Tree) × HasTy S X B s (at (base b)) × (Agree D θ (update θ w s) → Unifier (update θ w s) τ qs))
       → Leads S Frozen D σ ps E τ qs
   new-leads D σ ps w B b E τ qs g a i z back′ n = record {
     good = g;

@@ -20,8 +20,8 @@ nothing h = none
 abbrev pub Keeps : (ℕ → Tree) → Solutions → Type 0
 Keeps θ σ = (h : ℕ) (s : Tree) → σ h ≡ some s → θ h ≡ inst θ s
 
-abbrev pub Unifies : (ℕ → Tree) → Solutions → Pairs → Type 0
-Unifies θ σ ps = Keeps θ σ × Equates θ ps
+abbrev pub Unifier : (ℕ → Tree) → Solutions → Pairs → Type 0
+Unifier θ σ ps = Keeps θ σ × Equates θ ps
 
 -- THE ORDER. lo h is the lowest record of h's solution, m a bound of these numbers: a solved hole that stands in h's solution has all its own
 -- solution above the record where it stands, so a higher lo.
@@ -61,7 +61,7 @@ pub record Leads (S : ℕ → Option Ty) (Frozen : ℕ → Type 0) (D : Sig) (σ
   pub solves : Grows σ τ
   pub spares : (h : ℕ) → Frozen h → σ h ≡ none → τ h ≡ none
   pub back : (X : Sig) (θ : ℕ → Tree) → Fills S E X θ → Keeps θ τ → Equates θ qs → Equates θ ps
-  pub forth : (X : Sig) (θ : ℕ → Tree) → Fills S D X θ → Unifies θ σ ps → (ρ : ℕ → Tree) × Fills S E X ρ × Unifies ρ τ qs × Agree D θ ρ
+  pub forth : (X : Sig) (θ : ℕ → Tree) → Fills S D X θ → Unifier θ σ ps → (ρ : ℕ → Tree) × Fills S E X ρ × Unifier ρ τ qs × Agree D θ ρ
 
 -- MOVES
 
@@ -77,7 +77,7 @@ Place K j = (k : ℕ) × (k < length K) × (nth K k ≡ j)
 module _ (S : ℕ → Option Ty) (D : Sig) (σ : Solutions) where
   -- What every unifier puts for v uses only the positions K.
   abbrev pub Needs : Pairs → ℕ → List ℕ → Type 0
-  Needs ps v K = (X : Sig) (θ : ℕ → Tree) → Fills S D X θ → Unifies θ σ ps → All (Place K) (θ v)
+  Needs ps v K = (X : Sig) (θ : ℕ → Tree) → Fills S D X θ → Unifier θ σ ps → All (Place K) (θ v)
 
   -- Every filling that keeps the solutions makes a and b equal; or does so just if it puts for u what s says.
   abbrev pub Holds : Tree → Tree → Type 0

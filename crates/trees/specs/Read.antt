@@ -6,7 +6,7 @@ use Prim.Native.Nat.{ℕ, _+_, _≤_, _<_}
 use native.Mathlib.Omega.{arith}
 use lib.ListN.{length}
 use Rattle.trees.specs.Tree.{Ty, base, Tree, lam, con, var, hol, nil, cons, ren, nth, inst, Distinct, Sig, Vars, Kind, at, HasTy, t-lam, t-con, t-var, t-hol, t-nil, t-cons, Pairs, Both, Fills}
-use Rattle.trees.specs.Moves.{Solutions, Keeps, Unifies, Stamped, SolTyped, Good, Grows, Adds, Leads, Move, move-narrow, move-solve, omap, omap2, liftp, mapM, pren, Def, Covers, Inverts, After}
+use Rattle.trees.specs.Moves.{Solutions, Keeps, Unifier, Stamped, SolTyped, Good, Grows, Adds, Leads, Move, move-narrow, move-solve, omap, omap2, liftp, mapM, pren, Def, Covers, Inverts, After}
 use Rattle.trees.specs.Free.{Scoped, All-map}
 use Rattle.trees.specs.Partial.{pren-lam-inv, pren-con-inv, pren-var-inv, pren-cons-inv, pren-ren, pren-agree, pren-left, pren-right, inverse, inverse-left, inverse-right, inverse-below}
 use Rattle.trees.specs.Filling.{pren-hol}
@@ -53,7 +53,7 @@ module _ (S : ℕ → Option Ty) where
   -- stands for the hole u that is being solved (0 at the top, 1 inside: what the occurs check needs).
   abbrev pub Owes : Sig → Solutions → Pairs → ℕ → ℕ → (ℕ → Option ℕ) → Tree → Type 0
   Owes D σ ps u k p t =
-      (X : Sig) (θ : ℕ → Tree) → Fills S D X θ → Unifies θ σ ps
+      (X : Sig) (θ : ℕ → Tree) → Fills S D X θ → Unifier θ σ ps
       → ((r : Tree) × (pren p (inst θ t) ≡ some r)) × (k + size (inst θ t) ≤ size (θ u))
 
   -- where it begins

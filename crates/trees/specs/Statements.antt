@@ -5,7 +5,7 @@ use mathlib.Core.Option.{Option, none, some}
 use Prim.Native.Nat.{ℕ}
 use lib.ListN.{length}
 use Rattle.trees.specs.Tree.{Ty, Tree, hol, inst, Occurs, Sig, Pairs, Equates, PairsTyped, FillsAt, Fills, itself, Leaves}
-use Rattle.trees.specs.Moves.{Solutions, nothing, Keeps, Unifies, Stamped, Good, Adds, Leads, Move, Run, pren, Inverts, Walk, Fails, FrozenIn}
+use Rattle.trees.specs.Moves.{Solutions, nothing, Keeps, Unifier, Stamped, Good, Adds, Leads, Move, Run, pren, Inverts, Walk, Fails, FrozenIn}
 
 -- ANSWERS
 
@@ -14,22 +14,22 @@ abbrev pub alone : Option (List Ty × ℕ) → ℕ → Tree
 alone none h = hol h []
 alone (some c) h = itself (length (c .0)) h
 
-abbrev pub follow : Sig → (ℕ → Tree) → Option Tree → ℕ → Tree
-follow D F none h = alone (D h) h
-follow D F (some s) h = inst F s
+abbrev pub expandAt : Sig → (ℕ → Tree) → Option Tree → ℕ → Tree
+expandAt D F none h = alone (D h) h
+expandAt D F (some s) h = inst F s
 
 abbrev pub Expansion : Sig → Solutions → (ℕ → Tree) → Type 0
-Expansion D σ F = (h : ℕ) → F h ≡ follow D F (σ h) h
+Expansion D σ F = (h : ℕ) → F h ≡ expandAt D F (σ h) h
 
 -- A hole left: it occurs in what F gives for some hole of D. And θ is F followed by ρ, on the holes of D.
-abbrev pub Left : Sig → (ℕ → Tree) → ℕ → Type 0
-Left D F g = (h : ℕ) × (c : List Ty × ℕ) × (D h ≡ some c) × Occurs g (F h)
+abbrev pub Remains : Sig → (ℕ → Tree) → ℕ → Type 0
+Remains D F g = (h : ℕ) × (c : List Ty × ℕ) × (D h ≡ some c) × Occurs g (F h)
 
 abbrev pub Follows : Sig → (ℕ → Tree) → (ℕ → Tree) → (ℕ → Tree) → Type 0
 Follows D F ρ θ = (h : ℕ) (c : List Ty × ℕ) → D h ≡ some c → θ h ≡ inst ρ (F h)
 
 -- F, over the holes E, is a most general unifier of the equations ps over the holes D; X is any signature of further holes.
-pub record MostGeneral (S : ℕ → Option Ty) (D : Sig) (ps : Pairs) (E : Sig) (F : ℕ → Tree) : Type 0 where
+pub record Principal (S : ℕ → Option Ty) (D : Sig) (ps : Pairs) (E : Sig) (F : ℕ → Tree) : Type 0 where
   -- F is typed, makes every equation equal, and is idempotent
   pub typed : Fills S E E F
   pub unifies : Equates F ps
@@ -37,8 +37,8 @@ pub record MostGeneral (S : ℕ → Option Ty) (D : Sig) (ps : Pairs) (E : Sig) 
   -- every typed filling that makes all equations equal is F followed by a typed filling
   pub factors : (X : Sig) (θ : ℕ → Tree) → Fills S D X θ → Equates θ ps → (ρ : ℕ → Tree) × Fills S E X ρ × Follows D F ρ θ
   -- any two such, typed on the holes left, agree on every hole left
-  pub unique : (X : Sig) (θ ρ π : ℕ → Tree) → ((g : ℕ) → Left D F g → FillsAt S E X ρ g) → ((g : ℕ) → Left D F g → FillsAt S E X π g)
-      → Follows D F ρ θ → Follows D F π θ → (g : ℕ) → Left D F g → ρ g ≡ π g
+  pub unique : (X : Sig) (θ ρ π : ℕ → Tree) → ((g : ℕ) → Remains D F g → FillsAt S E X ρ g) → ((g : ℕ) → Remains D F g → FillsAt S E X π g)
+      → Follows D F ρ θ → Follows D F π θ → (g : ℕ) → Remains D F g → ρ g ≡ π g
 
 -- STATEMENTS
 
@@ -47,13 +47,13 @@ module _ (S : ℕ → Option Ty) (Frozen : ℕ → Type 0) where
   abbrev pub SolvedIsMostGeneral : Type 0
   SolvedIsMostGeneral =
       (D : Sig) (ps : Pairs) (E : Sig) (τ : Solutions) → PairsTyped S D ps → Run S Frozen D nothing ps E τ []
-      → ((F : ℕ → Tree) × Expansion E τ F) × ((F : ℕ → Tree) → Expansion E τ F → MostGeneral S D ps E F)
+      → ((F : ℕ → Tree) × Expansion E τ F) × ((F : ℕ → Tree) → Expansion E τ F → Principal S D ps E F)
 
   -- No hole left is solved.
   abbrev pub LeftIsUnsolved : Type 0
   LeftIsUnsolved =
       (D : Sig) (ps : Pairs) (E : Sig) (τ : Solutions) (F : ℕ → Tree) → PairsTyped S D ps → Run S Frozen D nothing ps E τ [] → Expansion E τ F
-      → (g : ℕ) → Left D F g → τ g ≡ none
+      → (g : ℕ) → Remains D F g → τ g ≡ none
 
   -- Demand 3, frozen holes: the answer leaves them as they are, and if θ does then so does the filling that takes the answer to θ.
   abbrev pub SolvedLeavesFrozen : Type 0
@@ -72,7 +72,7 @@ module _ (S : ℕ → Option Ty) (Frozen : ℕ → Type 0) where
   OrderIsFree =
       (D : Sig) (ps qs : Pairs) (E : Sig) (τ : Solutions) (F : ℕ → Tree) → FrozenIn Frozen D → PairsTyped S D ps → List·Permᴰ ps qs
       → Run S Frozen D nothing ps E τ [] → Expansion E τ F
-      → MostGeneral S D qs E F × ((H : Sig) (υ : Solutions) (rs : Pairs) → Run S Frozen D nothing qs H υ rs → ¬ (Fails Frozen H υ rs))
+      → Principal S D qs E F × ((H : Sig) (υ : Solutions) (rs : Pairs) → Run S Frozen D nothing qs H υ rs → ¬ (Fails Frozen H υ rs))
 
   -- Each move, and so each run, keeps exactly the unifiers, and solves no frozen hole.
   abbrev pub RunsKeepUnifiers : Type 0
@@ -94,7 +94,7 @@ module _ (S : ℕ → Option Ty) (Frozen : ℕ → Type 0) where
   abbrev pub FailedIsStuck : Type 0
   FailedIsStuck =
       (D : Sig) (σ : Solutions) (ps : Pairs) → FrozenIn Frozen D → Good S D σ ps → Fails Frozen D σ ps
-      → (X : Sig) (θ : ℕ → Tree) → Fills S D X θ → Leaves Frozen D θ → ¬ (Unifies θ σ ps)
+      → (X : Sig) (θ : ℕ → Tree) → Fills S D X θ → Leaves Frozen D θ → ¬ (Unifier θ σ ps)
 
 -- Solutions that are in order have exactly one answer.
 abbrev pub OrderedHasOneAnswer : Type 0

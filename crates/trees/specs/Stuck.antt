@@ -7,7 +7,7 @@ use Prim.Native.Nat.{ℕ, suc, _<_}
 use native.Mathlib.Omega.{arith}
 use lib.ListN.{length}
 use Rattle.trees.specs.Tree.{Ty, Tree, lam, con, var, hol, nil, cons, ren, nth, inst, Holes, Sig, Pairs, Fills, itself, Leaves}
-use Rattle.trees.specs.Moves.{Solutions, Unifies, Good, Leads, pren, head, Stands, FrozenIn}
+use Rattle.trees.specs.Moves.{Solutions, Unifier, Good, Leads, pren, head, Stands, FrozenIn}
 use Rattle.trees.specs.Partial.{pren-var-inv, pren-hol-inv}
 use Rattle.trees.specs.Filling.{mapM-nth, ren-itself}
 use Rattle.trees.specs.Size.{size-ren}
@@ -30,7 +30,7 @@ module _ (Frozen : ℕ → Type 0) where
 module _ (S : ℕ → Option Ty) (Frozen : ℕ → Type 0) where
   -- no unifier
   abbrev pub Stuck : Sig → Solutions → Pairs → Type 0
-  Stuck D σ ps = (X : Sig) (θ : ℕ → Tree) → Fills S D X θ → Leaves Frozen D θ → ¬ (Unifies θ σ ps)
+  Stuck D σ ps = (X : Sig) (θ : ℕ → Tree) → Fills S D X θ → Leaves Frozen D θ → ¬ (Unifier θ σ ps)
 
   -- what leads to a stuck state is stuck
   pub stuck-before : {D : Sig} {σ : Solutions} {ps : Pairs} {E : Sig} {τ : Solutions} {qs : Pairs} → FrozenIn Frozen D → Leads S Frozen D σ ps E τ qs
