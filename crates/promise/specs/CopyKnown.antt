@@ -22,7 +22,7 @@ use Rattle.promise.specs.Maps.{option-at, place, place-zero}
 use Rattle.promise.specs.Copying.{copy-ends}
 use Rattle.promise.specs.State.{holds-appends}
 use Rattle.promise.specs.Parts.{applied-later}
-use Rattle.promise.specs.WalkKnown.{WalkKnown, WalkAllKnown, walk-arguments, walk-first, walk-second}
+use Rattle.promise.specs.TermKnown.{TermKnown, ListKnown, known-arguments, known-first, known-second}
 
 -- the variable v has a place
 abbrev pub HasPlace : Map → ℕ → ℕ → Type 0
@@ -48,8 +48,8 @@ full-place {m} {c} f d v h = go (decLt v d)
         (p .0 + d, rw (le-ltb v d (omega arith), placeOf, e))
 
 -- and every argument of an occurrence
-pub full-arguments : {R : ℕ} {s : Store} {m : Map} {c d r : ℕ} → Full m c → WalkKnown R s c d r → tag (s .words) r ≡ HA → All (HasPlace m d) (variables (s .words) r)
-full-arguments {s = s} {d = d} {r} f k e = all-map _ _ (full-place f d) (variables (s .words) r) (walk-arguments k e)
+pub full-arguments : {R : ℕ} {s : Store} {m : Map} {c d r : ℕ} → Full m c → TermKnown R s c d r → tag (s .words) r ≡ HA → All (HasPlace m d) (variables (s .words) r)
+full-arguments {s = s} {d = d} {r} f k e = all-map _ _ (full-place f d) (variables (s .words) r) (known-arguments k e)
 
 -- the place that was found, or 0
 abbrev found : Found → ℕ
@@ -60,11 +60,11 @@ placed : (m : Map) (d v : ℕ) → HasPlace m d v → place m d v ≡ some (foun
 placed m d v h = rw (h .1)
 
 -- the rest of a list after its first argument was copied
-pub copied-rest : {R : ℕ} {s : Store} {c d l : ℕ} → (l ≡ NONE → ⊥) → WalkAllKnown R s c d l → (m : Map) → Full m c → (f : ℕ) {s₁ : Store} {y : ℕ}
-    → copy f R m d (fieldA (s .words) l) s ≡ goes s₁ y → WalkAllKnown R s₁ c d (fieldB (s .words) l)
+pub copied-rest : {R : ℕ} {s : Store} {c d l : ℕ} → (l ≡ NONE → ⊥) → ListKnown R s c d l → (m : Map) → Full m c → (f : ℕ) {s₁ : Store} {y : ℕ}
+    → copy f R m d (fieldA (s .words) l) s ≡ goes s₁ y → ListKnown R s₁ c d (fieldB (s .words) l)
 copied-rest {R} {s} {c} {d} {l} ne k m full f {s₁} {y} e =
-    let a = walk-first ne k in
-    let b = walk-second ne k in
+    let a = known-first ne k in
+    let b = known-second ne k in
     let to : ℕ → ℕ = λ v. found (placeOf m d v) in
     let w : Wrote R (ren to (a .tree)) s s₁ y =
     went (rw e at (copy-ends R f m d (fieldA (s .words) l) s to (a .tree) (a .holds .fits) (a .reads) (All-map (λ v lt. placed m d v (full-place full d v lt)) (a .tree) (a .scoped)))) in

@@ -26,7 +26,7 @@ use Rattle.promise.specs.Running.{step-ends}
 use Rattle.promise.specs.Admitting.{Admitted}
 use Rattle.promise.specs.Starting.{pairs-typed, start-holds, start-pairs}
 use Rattle.promise.specs.Parts.{constant-arguments, variable-arguments}
-use Rattle.promise.specs.WalkKnown.{walk-arity}
+use Rattle.promise.specs.TermKnown.{known-arity}
 use Rattle.promise.specs.SideKnown.{SideKnown, side-walks}
 
 pub record Known (R : ℕ) (s : Store) (q : List Pair) : Type 0 where
@@ -166,4 +166,4 @@ module _ {R : ℕ} {s : Store} {l r : ℕ} {q : List Pair} (k : Known R s ((l, r
         go (no a) = let b : tag (s .words) l ≡ VA = omega arith in same-variables b (z ∙ b)
 
     pub same-holes : tag (s .words) l ≡ HA → tag (s .words) r ≡ HA → length (variables (s .words) l) ≡ length (variables (s .words) r)
-    same-holes a b = walk-arity (side-walks known-left) a ∙ ap (λ h. length (elements (s .words) (fieldA (s .words) h))) e ∙ sym (walk-arity (side-walks known-right) b)
+    same-holes a b = known-arity (side-walks known-left) a ∙ ap (λ h. length (elements (s .words) (fieldA (s .words) h))) e ∙ sym (known-arity (side-walks known-right) b)

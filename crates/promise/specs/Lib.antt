@@ -22,7 +22,7 @@ pub mod Assigning  -- steps 4 and 5
 pub mod Meeting  -- steps 2 to 5: two sides meet
 pub mod Running  -- the machine runs
 pub mod Parts  -- the parts of a term that reads
-pub mod WalkKnown  -- what is known of a term that is walked
+pub mod TermKnown  -- what is known of a term that is walked, copied or shown
 pub mod CopyKnown  -- that every position has a place where a term is copied or shown, and that a copy appends
 pub mod SideKnown  -- what is known of a side of a pair
 pub mod Readable  -- lists, types and holes of a sound table can be read

@@ -18,17 +18,17 @@ use Rattle.promise.specs.Following.{follow-after}
 use Rattle.promise.specs.State.{Holds}
 use Rattle.promise.specs.Showing.{length-from, nth-from}
 use Rattle.promise.specs.Parts.{hole-occurrence, context-length}
-use Rattle.promise.specs.WalkKnown.{WalkKnown, walk-solution, solution-known}
+use Rattle.promise.specs.TermKnown.{TermKnown, known-solution, solution-known}
 use Rattle.promise.specs.CopyKnown.{Full, full-place}
 
 -- hole h
 pub record HoleKnown (R : ℕ) (s : Store) (m : Map) (h : ℕ) : Type 0 where
   pub scope : ℕ
   pub full : Full m scope
-  pub solution : (t : ℕ) → getD (s .solutions) h NONE ≡ t → (t ≡ NONE → ⊥) → WalkKnown R s scope 0 t
+  pub solution : (t : ℕ) → getD (s .solutions) h NONE ≡ t → (t ≡ NONE → ⊥) → TermKnown R s scope 0 t
 
 -- the hole of an occurrence, under the map that follows the arguments
-module _ {R : ℕ} {s : Store} {m : Map} {c d r : ℕ} (f : Full m c) (k : WalkKnown R s c d r) (e : tag (s .words) r ≡ HA) where
+module _ {R : ℕ} {s : Store} {m : Map} {c d r : ℕ} (f : Full m c) (k : TermKnown R s c d r) (e : tag (s .words) r ≡ HA) where
   pub full-hole : HoleKnown R s (follow m d 0 (variables (s .words) r)) (fieldA (s .words) r)
   full-hole =
       let vs = variables (s .words) r in
@@ -39,7 +39,7 @@ module _ {R : ℕ} {s : Store} {m : Map} {c d r : ℕ} (f : Full m c) (k : WalkK
               let p = full-place f d (nth vs j) (nth-All (λ v. v < d + c) vs (rw (hole-occurrence e (k .reads)) at (k .scoped)) j h) in
               (p .0, follow-after m d vs j h ∙ ap option (p .1));
         };
-        solution = walk-solution k e;
+        solution = known-solution k e;
       }
 
 -- a hole of the table, over its context variables in order

@@ -23,7 +23,7 @@ use Rattle.promise.specs.Copying.{copy-ends}
 use Rattle.promise.specs.State.{Holds, declared-low, holds-appends}
 use Rattle.promise.specs.Expanding.{in-scope}
 use Rattle.promise.specs.Parts.{hole-occurrence}
-use Rattle.promise.specs.WalkKnown.{WalkKnown, walk-solution}
+use Rattle.promise.specs.TermKnown.{TermKnown, known-solution}
 
 pub record SideKnown (R : ℕ) (s : Store) (r : ℕ) : Type 0 where
   pub constants : ℕ → Option Ty
@@ -38,7 +38,7 @@ pub record SideKnown (R : ℕ) (s : Store) (r : ℕ) : Type 0 where
   pub typed : HasTy constants sig context tree kind
 
 module _ {R : ℕ} {s : Store} {r : ℕ} (k : SideKnown R s r) where
-  pub side-walks : WalkKnown R s (length (k .context)) 0 r
+  pub side-walks : TermKnown R s (length (k .context)) 0 r
   side-walks =
       record {
         sig = k .sig;
@@ -70,8 +70,8 @@ module _ {R : ℕ} {s : Store} {r : ℕ} (k : SideKnown R s r) where
         go (some u) z = (u, z, rw q at (k .holds .solves (fieldA (s .words) r) u z))
 
     -- what is known of it
-    pub side-solution : WalkKnown R s (length vs) 0 t
-    side-solution = walk-solution side-walks e t q n
+    pub side-solution : TermKnown R s (length vs) 0 t
+    side-solution = known-solution side-walks e t q n
 
     -- the copy is typed as the occurrence is
     renamed : {h : ℕ} {xs : List ℕ} {c : Kind} {C : List Ty} {b : ℕ} {u : Tree} → HasTy (k .constants) (k .sig) (k .context) (hol h xs) c → k .sig h ≡ some (C, b)

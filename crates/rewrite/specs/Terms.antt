@@ -11,7 +11,7 @@ use Rattle.rules.specs.Words.{NONE, fieldB, elements, LA, CA, VA, HA}
 use Rattle.laws.specs.Lists.{size}
 use Rattle.invariants.specs.Floor.{Sub, Args, Fine}
 use Rattle.invariants.specs.Grow.{sub-less, args-less}
-use Rattle.promise.specs.WalkKnown.{WalkKnown, WalkAllKnown, walk-body, walk-constant, walk-variable, walk-first, walk-second}
+use Rattle.promise.specs.TermKnown.{TermKnown, ListKnown, known-body, known-constant, known-variable, known-first, known-second}
 use Rattle.store.specs.Said.{store}
 use Rattle.rewrite.specs.Parts.{term-read, body-at, args-at, size-args, few-at, cell-read, lower-at, list-is, both-at}
 
@@ -19,14 +19,14 @@ use Rattle.rewrite.specs.Parts.{term-read, body-at, args-at, size-args, 
 pub record TermAt (R n : ℕ) (home : ℕ → ℕ) (ws ss : List ℕ) (used F c d r : ℕ) : Type 0 where
   pub fine : Fine R n home (store ws ss used)
   pub is : Sub ws home F used r
-  pub known : WalkKnown R (store ws ss used) c d r
+  pub known : TermKnown R (store ws ss used) c d r
 
 -- a list of such terms
 pub record ListAt (R n : ℕ) (home : ℕ → ℕ) (ws ss : List ℕ) (used F c d l : ℕ) : Type 0 where
   pub fine : Fine R n home (store ws ss used)
   pub is : Args ws home F used l
   pub few : length (elements ws l) ≤ 16
-  pub known : WalkAllKnown R (store ws ss used) c d l
+  pub known : ListKnown R (store ws ss used) c d l
 
 -- list l is a cell, whose record is w: an element and a rest, both lower
 pub record IsCell (ws : List ℕ) (l : ℕ) (w : Record) : Type 0 where
@@ -54,22 +54,22 @@ module _ {R n : ℕ} {home : ℕ → ℕ} {ws ss : List ℕ} {used F c d : ℕ} 
         at-body =
             let b = body .below in
             let i = h .is .below in
-            record { fine = h .fine; is = sub-less ws home F F r used (w .a) body (omega arith) (omega arith); known = rw (e .a-is) (walk-body (h .known) (sym (e .tag-is) ∙ t)) }
+            record { fine = h .fine; is = sub-less ws home F F r used (w .a) body (omega arith) (omega arith); known = rw (e .a-is) (known-body (h .known) (sym (e .tag-is) ∙ t)) }
 
       -- a rigid head
       pub at-variable : w .tag ≡ VA → w .a < d + c
-      at-variable t = rw (e .a-is) (walk-variable (h .known) (sym (e .tag-is) ∙ t) .0)
+      at-variable t = rw (e .a-is) (known-variable (h .known) (sym (e .tag-is) ∙ t) .0)
 
       module _ (a : w .tag ≡ LA → ⊥) (b : w .tag ≡ HA → ⊥) where
         pub at-size : size (w .b) ≤ r
         at-size = size-args R n home ws ss used F r (h .fine) (h .is) w e a
 
-        knows : WalkAllKnown R (store ws ss used) c d (w .b)
+        knows : ListKnown R (store ws ss used) c d (w .b)
         knows = rw (e .b-is) (go (ℕ-discrete (w .tag) CA))
           where
-            go : Dec (w .tag ≡ CA) → WalkAllKnown R (store ws ss used) c d (fieldB ws r)
-            go (yes t) = walk-constant (h .known) (sym (e .tag-is) ∙ t)
-            go (no t) = let lo = h .is .term .low in let hi = h .is .term .high in let z = e .tag-is in walk-variable (h .known) (omega arith) .1
+            go : Dec (w .tag ≡ CA) → ListKnown R (store ws ss used) c d (fieldB ws r)
+            go (yes t) = known-constant (h .known) (sym (e .tag-is) ∙ t)
+            go (no t) = let lo = h .is .term .low in let hi = h .is .term .high in let z = e .tag-is in known-variable (h .known) (omega arith) .1
 
         pub at-args : ListAt R n home ws ss used F c d (w .b)
         at-args =
@@ -93,10 +93,10 @@ module _ {R n : ℕ} {home : ℕ → ℕ} {ws ss : List ℕ} {used F c d : ℕ} 
       list-rest = both-at R n home ws ss used F l (h .fine) (h .is) ne w e .1
 
       pub list-first : TermAt R n home ws ss used F c d (w .a)
-      list-first = record { fine = h .fine; is = both-at R n home ws ss used F l (h .fine) (h .is) ne w e .0; known = rw (e .a-is) (walk-first ne (h .known)) }
+      list-first = record { fine = h .fine; is = both-at R n home ws ss used F l (h .fine) (h .is) ne w e .0; known = rw (e .a-is) (known-first ne (h .known)) }
 
       rest-few : length (elements ws (w .b)) ≤ 16
       rest-few = let k : length (w .a ∷ elements ws (w .b)) ≤ 16 = rw (list-cell .list) at (h .few) in omega arith
 
       pub list-second : ListAt R n home ws ss used F c d (w .b)
-      list-second = record { fine = h .fine; is = list-rest; few = rest-few; known = rw (e .b-is) (walk-second ne (h .known)) }
+      list-second = record { fine = h .fine; is = list-rest; few = rest-few; known = rw (e .b-is) (known-second ne (h .known)) }

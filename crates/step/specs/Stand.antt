@@ -20,7 +20,7 @@ use Rattle.invariants.specs.Running.{Running}
 use Rattle.store.specs.Said.{store, Does²}
 use Rattle.rewrite.specs.Parts.{term-read, counts-of}
 use Rattle.walk.specs.Assign.{Assigning}
-use Rattle.promise.specs.WalkKnown.{walk-arity}
+use Rattle.promise.specs.TermKnown.{known-arity}
 use Rattle.promise.specs.SideKnown.{side-walks}
 use Rattle.promise.specs.Known.{Known, known-left, known-right, same-arguments, same-holes}
 use Rattle.queue.specs.Ring.{view, Fine as Ringed}
@@ -101,7 +101,7 @@ module _ (R n : ℕ) (ws ss : List ℕ) (used : ℕ) (q : List ℕ) (cap : ℕ) 
           nine-left = f .0;
           nine-right = f .1;
           many = simp length-map at (same-holes (h .known) (f .2) (f .0) (f .1));
-          arity = sym (simp length-map at (walk-arity (side-walks (known-left (h .known))) (f .0)));
+          arity = sym (simp length-map at (known-arity (side-walks (known-left (h .known))) (f .0)));
         }
 
     pub met-same : (ws₁ ss₁ : List ℕ) (x : Step) → k ≡ SameHole → SameDone g R l r ws ss used ws₁ ss₁ x → Met ws₁ ss₁ q x

@@ -16,7 +16,7 @@ use Rattle.invariants.specs.Grow.{args-kept}
 use Rattle.invariants.specs.Rise.{reach}
 use Rattle.invariants.specs.Keep.{kept}
 use Rattle.invariants.specs.Copy.{Nobody, copy-grows}
-use Rattle.promise.specs.WalkKnown.{WalkAllKnown, walk-rest}
+use Rattle.promise.specs.TermKnown.{ListKnown, walked-rest}
 use Rattle.promise.specs.CopyKnown.{full-less, copied-rest}
 use Rattle.store.specs.Said.{store}
 use Rattle.rewrite.specs.Terms.{list-cell, list-rest, list-first, list-second}
@@ -38,10 +38,10 @@ module _ {R n u : ℕ} {m : Map} {ws ss : List ℕ} {used F d l : ℕ} (h : Read
   fuel = suc (reach R F (suc (w .a)))
 
   -- by what is done: a copy, or the walk for hole u
-  went : Later R n (h .home) (store ws ss used) (store ws₁ ss₁ u₁) × WalkAllKnown R (store ws₁ ss₁ u₁) (h .scope) d (w .b)
+  went : Later R n (h .home) (store ws ss used) (store ws₁ ss₁ u₁) × ListKnown R (store ws₁ ss₁ u₁) (h .scope) d (w .b)
   went = go (h .on .led)
     where
-      go : Led R u m used F (h .on .top + d) (size l) → Later R n (h .home) (store ws ss used) (store ws₁ ss₁ u₁) × WalkAllKnown R (store ws₁ ss₁ u₁) (h .scope) d (w .b)
+      go : Led R u m used F (h .on .top + d) (size l) → Later R n (h .home) (store ws ss used) (store ws₁ ss₁ u₁) × ListKnown R (store ws₁ ss₁ u₁) (h .scope) d (w .b)
       go (copying z a full fi) =
           let lo = list-cell (h .at) ne w e .lower .0 in
           let p = list-first (h .at) ne w e .is in
@@ -54,7 +54,7 @@ module _ {R n u : ℕ} {m : Map} {ws ss : List ℕ} {used F d l : ℕ} (h : Read
           let lo = list-cell (h .at) ne w e .lower .0 in
           let c = rw (walks R u fuel z) at g in (
             later (rw c at (kept R n u used F (h .on .top) fuel (mapAt F m) d (w .a) (store ws ss used) (h .home) (h .at .fine) (le-refl _) lt (list-first (h .at) ne w e .is) (h .on .low) (omega arith) (omega arith))),
-            rw (e .b-is) (walk-rest ne (h .at .known) _ u (mapAt F m) (rw (e .a-is) at c)),
+            rw (e .b-is) (walked-rest ne (h .at .known) _ u (mapAt F m) (rw (e .a-is) at c)),
           )
 
   pub after-same : elements ws₁ (w .b) ≡ elements ws (w .b)

@@ -19,7 +19,7 @@ use Rattle.rules.specs.Walk.{walk, assign}
 use Rattle.invariants.specs.Floor.{Sub, Fine}
 use Rattle.invariants.specs.Assign.{start-low}
 use Rattle.store.specs.Said.{Does², store, shown}
-use Rattle.promise.specs.WalkKnown.{WalkKnown}
+use Rattle.promise.specs.TermKnown.{TermKnown}
 use Rattle.places.specs.Maps.{mapOf}
 use Rattle.places.specs.Lists.{Counts}
 use Rattle.places.specs.Arguments.{Arguments, arguments-above}
@@ -35,7 +35,7 @@ pub record Assigning (R n : ℕ) (ws ss : List ℕ) (used l r : ℕ) : Type 0 wh
   pub occ : tag ws l ≡ HA
   pub right : Sub ws home 0 used r
   pub scope : ℕ
-  pub known : WalkKnown R (store ws ss used) scope 0 r
+  pub known : TermKnown R (store ws ss used) scope 0 r
 
 -- what follows the walk
 abbrev pub recording : ℕ → Store × ℕ → Out ℕ

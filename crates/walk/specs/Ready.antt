@@ -24,7 +24,7 @@ use Rattle.invariants.specs.Grow.{all-map}
 use Rattle.invariants.specs.Places.{Low, followed}
 use Rattle.invariants.specs.Rise.{reach, raised, raised-first, raised-on, Rises, rises}
 use Rattle.invariants.specs.Keep.{highest}
-use Rattle.promise.specs.WalkKnown.{walk-arguments, walk-arity, walk-solution}
+use Rattle.promise.specs.TermKnown.{known-arguments, known-arity, known-solution}
 use Rattle.promise.specs.CopyKnown.{Full, full-less, full-arguments}
 use Rattle.store.specs.Said.{store, Does, Then, over}
 use Rattle.places.specs.Maps.{Whole, mapOf, side}
@@ -204,7 +204,7 @@ module _ {R n u : ℕ} {m : Map} {ws ss : List ℕ} {used F d r : ℕ} where
       record {
         counts = counts-at R n (h .on .home) ws ss used F r (h .on .at .fine) (h .on .at .is) w e (h .occ);
         looks = look (h .on);
-        within = rw (e .b-is) (all-map _ _ (inside (h .on)) (variables ws r) (walk-arguments (h .on .at .known) (h .occ)));
+        within = rw (e .b-is) (all-map _ _ (inside (h .on)) (variables ws r) (known-arguments (h .on .at .known) (h .occ)));
       }
 
   pub to-solution : (w : Record) → IsRecord ws r w → ReadyHole R n u m ws ss used F d r → w .a < length ss
@@ -212,7 +212,7 @@ module _ {R n u : ℕ} {m : Map} {ws ss : List ℕ} {used F d r : ℕ} where
 
   pub to-keep : (w : Record) (next : Map) → IsRecord ws r w → ReadyHole R n u m ws ss used F d r → Followed ws (eqb F 0) m d (w .b) next → Narrowing ws ss n used R (w .a) next
   to-keep w next e h g =
-      narrows R n (h .on .home) ws ss used F r (h .on .at .fine) (h .on .at .is) w e (h .occ) next (g .whole) (sym (walk-arity (h .on .at .known) (h .occ)) ∙ as-many e g)
+      narrows R n (h .on .home) ws ss used F r (h .on .at .fine) (h .on .at .is) w e (h .occ) next (g .whole) (sym (known-arity (h .on .at .known) (h .occ)) ∙ as-many e g)
 
   pub to-raise : ReadyHole R n u m ws ss used F d r → r < 4096
   to-raise h = at-low (h .on .at)
@@ -249,7 +249,7 @@ module _ {R n u : ℕ} {m : Map} {ws ss : List ℕ} {used F d r : ℕ} where
         record {
           home = k .on .on .home;
           scope = length (variables ws r);
-          at = record { fine = k .on .on .at .fine; is = goes-up .sub; known = walk-solution (k .on .on .at .known) (k .on .occ) t (rw (← k .is .a-is) (k .solution)) (k .solved) };
+          at = record { fine = k .on .on .at .fine; is = goes-up .sub; known = known-solution (k .on .on .at .known) (k .on .occ) t (rw (← k .is .a-is) (k .solution)) (k .solved) };
           on = record {
             whole = k .follows .whole;
             top = o .top + d;

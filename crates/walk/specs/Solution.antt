@@ -19,7 +19,7 @@ use Rattle.invariants.specs.Copy.{occurrence-low}
 use Rattle.store.specs.Said.{store, shown, Since}
 use Rattle.trees.specs.Tree.{nth}
 use Rattle.promise.specs.Maps.{place-variables}
-use Rattle.promise.specs.WalkKnown.{WalkKnown}
+use Rattle.promise.specs.TermKnown.{TermKnown}
 use Rattle.promise.specs.CopyKnown.{Full}
 use Rattle.places.specs.Maps.{mapOf}
 use Rattle.places.specs.Lists.{Counts, varsOf}
@@ -35,7 +35,7 @@ pub record Copying (R n : ℕ) (ws ss : List ℕ) (used r t : ℕ) : Type 0 wher
   pub at : Sub ws home 0 used r
   pub nine : tag ws r ≡ HA
   pub is : Sub ws home 1 used t
-  pub known : WalkKnown R (store ws ss used) (length (variables ws r)) 0 t
+  pub known : TermKnown R (store ws ss used) (length (variables ws r)) 0 t
 
 -- with fuel enough, the copy answers so
 pub record CopiesSolution (R n : ℕ) (ws ss : List ℕ) (used r t : ℕ) (ws₁ ss₁ : List ℕ) (x : Walked) : Type 0 where
