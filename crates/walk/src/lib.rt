@@ -161,7 +161,7 @@ fn walk_body(
     then_over(table, n, room, rec.tag, head, args)
 }
 
-// The walk of one of several arguments: a rigid head without arguments takes no walk of a term ("one large solution" large: 1.18 of the
+// The walk of one of several arguments: a rigid head without arguments takes no walk of a term ("one large solution" large: 1.19 of the
 // plain version so, 1.34 with a walk of a term).
 fn walk_argument(
     table: &mut [u32],
