@@ -286,7 +286,8 @@ fn walk_hole(
     walked
 }
 
-// A copy of a solution, its context variables renamed to the arguments of the occurrence.
+// A copy of a solution, its context variables renamed to the arguments of the occurrence: a walk for no hole. Its floor is 1, not 0, since
+// the map leads from positions to variables; no solved hole is followed, so it never rises.
 pub fn copy_solution(
     table: &mut [u32],
     solutions: &mut [u32],

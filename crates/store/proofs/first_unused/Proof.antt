@@ -1,6 +1,5 @@
 -- `store::first_unused` meets its contract: the first unused record stays between the bounds.
 use Prim.Native.Nat.{_-_}
-use native.Mathlib.Omega.{arith}
 use borrow.Author.Needs.{needs}
 use Rattle.store.specs.Unused.{Unused, unused-all, unused-lower, unused-higher, unused-found}
 use Rattle.store.proofs.first_unused.Statement.{statement}
