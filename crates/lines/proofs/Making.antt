@@ -11,7 +11,8 @@ use Rattle.rules.specs.declared.Reply.{Reply}
 use Rattle.rules.specs.Answers.{reply}
 use Rattle.rules.specs.Text.{Bytes, replyLine, programLines}
 use Rattle.solver.specs.Answering.{Answerable, Writes}
-use Rattle.text.specs.Written.{most, written, written-whole}
+use Rattle.text.specs.Written.{most, written}
+use Rattle.text.specs.WrittenLaws.{written-whole}
 use Rattle.text.specs.Notation.{lineText}
 use Rattle.text.specs.Printable.{Answered}
 use Rattle.lines.specs.declared.Begun.{Begun}

@@ -23,7 +23,7 @@ use Rattle.store.specs.Said.{store}
 use Rattle.solver.specs.Answering.{Answerable, Writes}
 use Rattle.text.specs.Printable.{Below, Printable, Term, Answered}
 use Rattle.text.specs.Notation.{startText, answerText, lineText}
-use Rattle.text.specs.Lines.{line-is}
+use Rattle.text.specs.LinesLaws.{line-is}
 use Rattle.lines.specs.Lines.{solved, lineOf}
 use Rattle.lines.specs.Making.{longest}
 

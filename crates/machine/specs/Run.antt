@@ -18,9 +18,10 @@ use Rattle.invariants.specs.Copy.{Nobody}
 use Rattle.invariants.specs.Running.{Running, Stepped, ahead}
 use Rattle.invariants.specs.Turn.{step-grows}
 use Rattle.promise.specs.Known.{Known, known-step}
-use Rattle.rewrite.specs.Levels.{fuel}
+use Rattle.rewrite.specs.LevelsLaws.{fuel}
 use Rattle.store.specs.Said.{store}
-use Rattle.queue.specs.Ring.{Fine, view, view-none, Leaves, frontOf, left-view, left-fine}
+use Rattle.queue.specs.Ring.{Fine, view, Leaves, frontOf}
+use Rattle.queue.specs.RingLaws.{view-none, left-view, left-fine}
 use Rattle.step.specs.Said.{stepped, Steps}
 use Rattle.step.specs.Stand.{Stood}
 

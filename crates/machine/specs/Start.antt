@@ -22,7 +22,8 @@ use Rattle.invariants.specs.Falls.{steps-more}
 use Rattle.invariants.specs.Turn.{lefts-low}
 use Rattle.promise.specs.Known.{Known}
 use Rattle.store.specs.Said.{store}
-use Rattle.queue.specs.Ring.{Fine, view, view-none, Queued, Leaves, frontOf, left-view, left-fine, noPair}
+use Rattle.queue.specs.Ring.{Fine, view, Queued, Leaves, frontOf, noPair}
+use Rattle.queue.specs.RingLaws.{view-none, left-view, left-fine}
 use Rattle.queue.specs.Equations.{sidesOf, Entering}
 use Rattle.step.specs.Stand.{Stood}
 use Rattle.machine.specs.Run.{ended, Runs, runs-none}

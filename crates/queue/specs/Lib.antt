@@ -1,3 +1,4 @@
-pub mod Ring  -- what waits in a ring of words, and what joining and leaving do to it
-pub mod Arguments  -- the argument pairs of two lists
-pub mod Equations  -- the equations that were noted
+pub mod Ring  -- what waits in a ring of words
+pub mod RingLaws  -- what waits after a pair has left
+pub mod Arguments  -- what joining the argument pairs of two lists asks and says
+pub mod Equations  -- what entering the equations asks and says

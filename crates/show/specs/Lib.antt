@@ -1,6 +1,4 @@
-pub mod Shows  -- the contracts of showing, and its big-step rules
-pub mod Ready  -- what showing a term or a hole asks, and that it still holds where the code goes on
-pub mod Below  -- the same for the body below lambdas
-pub mod Each  -- the same for an argument list, argument by argument
-pub mod Answer  -- the answer of an input hole, over its context variables in order
-pub mod Outside  -- no word past the output's records is written
+pub mod Shows  -- the contracts of showing
+pub mod Ready  -- what showing a term, a list or a hole asks
+pub mod Answer  -- what the answer of an input hole asks and says
+pub mod OutsideLaws  -- no word past the output's records is written

@@ -45,8 +45,8 @@ use Rattle.store.specs.Said.{store, shown}
 use Rattle.places.specs.Lists.{Counts}
 use Rattle.show.specs.Ready.{Final}
 use Rattle.show.specs.Answer.{Answering}
-use Rattle.show.specs.Outside.{Leaves, answer-leaves}
-use Rattle.store.specs.Filled.{filled-again}
+use Rattle.show.specs.OutsideLaws.{Leaves, answer-leaves}
+use Rattle.store.specs.FilledLaws.{filled-again}
 use Rattle.checks.specs.declared.Asked.{Asked}
 use Rattle.checks.specs.declared.Asked.the-variants.{Record as Asking}
 use Rattle.checks.specs.Refusing.{asks, isHole}

@@ -17,7 +17,8 @@ use Rattle.promise.specs.Admitting.{admitted-is}
 use Rattle.records.specs.Rows.{BrokenAsks}
 use Rattle.checks.specs.declared.Refusal.{Refusal}
 use Rattle.checks.specs.declared.Refusal.the-variants.{Admitted as Admits-all, Refused}
-use Rattle.checks.specs.Refusing.{refusalOf, outside, Settled, outside-refused, inside-sound, in-table, zeros-ask}
+use Rattle.checks.specs.Refusing.{refusalOf, outside, Settled}
+use Rattle.checks.specs.RefusingLaws.{outside-refused, inside-sound, in-table, zeros-ask}
 use Rattle.solver.specs.Behind.{LeftBehind}
 use Rattle.solver.specs.Running.{Admits}
 

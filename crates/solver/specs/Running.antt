@@ -25,8 +25,9 @@ use Rattle.invariants.specs.Copy.{Nobody}
 use Rattle.promise.specs.Admitting.{Admitted as Typed}
 use Rattle.promise.specs.Known.{known-start}
 use Rattle.store.specs.Said.{store}
-use Rattle.store.specs.Filled.{filled-put, filled-again}
-use Rattle.store.specs.Clearing.{Clearing, Cleared, clearing-on, clearing-table, clearing-solutions}
+use Rattle.store.specs.FilledLaws.{filled-put, filled-again}
+use Rattle.store.specs.Clearing.{Clearing, Cleared}
+use Rattle.store.specs.ClearingLaws.{clearing-on, clearing-table, clearing-solutions}
 use Rattle.store.specs.Unused.{Unused}
 use Rattle.checks.specs.declared.Asked.the-variants.{Solving}
 use Rattle.checks.specs.Refusing.{asks}

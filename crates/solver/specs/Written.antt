@@ -7,7 +7,7 @@ use native.Mathlib.Decide.{decLt}
 use Rattle.rules.specs.Words.{NONE}
 use Rattle.rules.specs.Solve.{filled}
 use Rattle.invariants.specs.Floor.{Rest}
-use Rattle.store.specs.Filled.{filled-wider}
+use Rattle.store.specs.FilledLaws.{filled-wider}
 use Rattle.store.specs.Clearing.{Clearing, Cleared}
 use Rattle.store.specs.Unused.{Unused}
 

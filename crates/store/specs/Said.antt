@@ -1,12 +1,10 @@
 -- What the code's answers say, over the rules.
 use Prim.Native.Nat.{ℕ, _-_, _≤_}
-use mathlib.Core.Path.{_≡_, refl}
+use mathlib.Core.Path.{_≡_}
 use mathlib.Core.List.{List}
-use native.Mathlib.Omega.{arith}
-use Rattle.rules.specs.declared.Failure.{Failure}
 use Rattle.store.specs.declared.Walked.{Walked}
 use Rattle.store.specs.declared.Walked.the-variants.{Root, Failed}
-use Rattle.rules.specs.Store.{Store, Out, goes, fails, spent, _>>=_, push}
+use Rattle.rules.specs.Store.{Store, Out, goes, fails, _>>=_, push}
 
 -- table words, solution words and records used, as a store
 abbrev pub store : List ℕ → List ℕ → ℕ → Store
@@ -20,15 +18,6 @@ shown ws ss (Failed e) = fails ws ss e
 -- an answer that goes on has used at least n records
 pub record Since (n : ℕ) (x : Walked) : Type 0 where
   pub since : (r u : ℕ) → x ≡ Root r u → n ≤ u
-
-pub since-root : (n r u : ℕ) → n ≤ u → Since n (Root r u)
-since-root n r u h = record { since = λ r′ u′ e. let z : u ≡ u′ = cc in omega arith }
-
-pub since-failed : (n : ℕ) (e : Failure) → Since n (Failed e)
-since-failed n e = record { since = λ r u p. let z : _≡_ {A = ℕ} 0 1 = cc in absurd (omega arith) }
-
-pub from-since : (n : ℕ) (x : Walked) (r u : ℕ) → Since n x → x ≡ Root r u → n ≤ u
-from-since n x r u h e = h .since r u e
 
 -- a rule that leaves the solutions alone: words and answer, whatever the solutions are
 pub record Does (n : ℕ) (rule : Store → Out ℕ) (ws : List ℕ) (u : ℕ) (ws₁ : List ℕ) (x : Walked) : Type 0 where
@@ -55,10 +44,3 @@ pub record Does² (n : ℕ) (rule : Store → Out ℕ) (ws ss : List ℕ) (u : �
 pub record Then² (n : ℕ) (rule : Store × ℕ → Out ℕ) (ws ss : List ℕ) (w : Walked) (ws₁ ss₁ : List ℕ) (x : Walked) : Type 0 where
   pub run : (shown ws ss w >>= rule) ≡ shown ws₁ ss₁ x
   pub grown : Since n x
-
--- what follows is grouped as one likes
-pub bind-assoc : (o : Out ℕ) (f g : Store × ℕ → Out ℕ) → (o >>= λ p. f p >>= g) ≡ ((o >>= f) >>= g)
-unfolding _>>=_
-bind-assoc (goes s x) f g = refl
-bind-assoc (fails ws ss e) f g = refl
-bind-assoc spent f g = refl

@@ -8,8 +8,9 @@ use lib.Dec.{leb}
 use lib.ListN.{length, getD, drop, drop-of-length-le}
 use lib.Seq.{drop-cons}
 use Rattle.rules.specs.Text.{Bytes, decimal}
-use Rattle.text.specs.Written.{written, written-none, written-then}
-use Rattle.text.specs.Parts.{byte-then}
+use Rattle.text.specs.Written.{written}
+use Rattle.text.specs.WrittenLaws.{written-none, written-then}
+use Rattle.text.specs.WrittenLaws.{byte-then}
 use Rattle.stored.specs.Lines.{spaced, wordsLine, kept}
 
 -- the words before word i are written

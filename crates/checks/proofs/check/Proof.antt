@@ -1,6 +1,6 @@
 -- `checks::check` meets its contract.
 use borrow.Author.Needs.{needs}
-use Rattle.checks.specs.Order.{outside-checked, inside-table, inside-fits, inside-checked}
+use Rattle.checks.proofs.Order.{outside-checked, inside-table, inside-fits, inside-checked}
 use Rattle.checks.proofs.check.Statement.{statement}
 use Rattle.checks.proofs.check.Tie as tie
 

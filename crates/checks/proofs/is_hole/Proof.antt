@@ -1,5 +1,5 @@
 -- `checks::is_hole` meets its contract.
-use Rattle.checks.specs.Refusing.{hole-within, hole-past}
+use Rattle.checks.proofs.Refusals.{hole-within, hole-past}
 use borrow.Author.Needs.{needs}
 use Rattle.checks.proofs.is_hole.Statement.{statement}
 use Rattle.checks.proofs.is_hole.Tie as tie

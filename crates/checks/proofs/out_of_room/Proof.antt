@@ -1,5 +1,5 @@
 -- `checks::out_of_room` meets its contract.
-use Rattle.checks.specs.Refusing.{above-room, within-room}
+use Rattle.checks.proofs.Refusals.{above-room, within-room}
 use borrow.Author.Needs.{needs}
 use Rattle.checks.proofs.out_of_room.Statement.{statement}
 use Rattle.checks.proofs.out_of_room.Tie as tie

@@ -1,5 +1,5 @@
 -- `checks::refuse` meets its contract.
-use Rattle.checks.specs.Refusing.{broken-at, none-broken, asked-asks}
+use Rattle.checks.proofs.Refusals.{broken-at, none-broken, asked-asks}
 use borrow.Author.Needs.{needs}
 use Rattle.checks.proofs.refuse.Statement.{statement}
 use Rattle.checks.proofs.refuse.Tie as tie

@@ -1,5 +1,5 @@
 -- `checks::refuse_asked` meets its contract.
-use Rattle.checks.specs.Refusing.{asking-solve, asking-hole, asking-none}
+use Rattle.checks.proofs.Refusals.{asking-solve, asking-hole, asking-none}
 use borrow.Author.Needs.{needs}
 use Rattle.checks.proofs.refuse_asked.Statement.{statement}
 use Rattle.checks.proofs.refuse_asked.Tie as tie

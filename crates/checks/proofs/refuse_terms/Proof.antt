@@ -1,5 +1,5 @@
 -- `checks::refuse_terms` meets its contract.
-use Rattle.checks.specs.Refusing.{ill-typed-at, no-pattern-at, typed-all}
+use Rattle.checks.proofs.Refusals.{ill-typed-at, no-pattern-at, typed-all}
 use borrow.Author.Needs.{needs}
 use Rattle.checks.proofs.refuse_terms.Statement.{statement}
 use Rattle.checks.proofs.refuse_terms.Tie as tie

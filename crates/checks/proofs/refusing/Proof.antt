@@ -1,5 +1,5 @@
 -- `checks::refusing` meets its contract.
-use Rattle.checks.specs.Refusing.{refusing-case}
+use Rattle.checks.proofs.Refusals.{refusing-case}
 use borrow.Author.Needs.{needs}
 use Rattle.checks.proofs.refusing.Statement.{statement}
 use Rattle.checks.proofs.refusing.Tie as tie

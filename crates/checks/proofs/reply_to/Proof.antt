@@ -1,6 +1,6 @@
 -- `checks::reply_to` meets its contract.
 use borrow.Author.Needs.{needs}
-use Rattle.checks.specs.Order.{says-admitted, says-refused}
+use Rattle.checks.proofs.Order.{says-admitted, says-refused}
 use Rattle.checks.proofs.reply_to.Statement.{statement}
 use Rattle.checks.proofs.reply_to.Tie as tie
 

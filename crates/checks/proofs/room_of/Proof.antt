@@ -1,5 +1,5 @@
 -- `checks::room_of` meets its contract.
-use Rattle.checks.specs.Refusing.{room-less, room-most}
+use Rattle.checks.proofs.Refusals.{room-less, room-most}
 use borrow.Author.Needs.{needs}
 use Rattle.checks.proofs.room_of.Statement.{statement}
 use Rattle.checks.proofs.room_of.Tie as tie

@@ -7,7 +7,7 @@ use borrow.Author.Needs.{needs}
 use Rattle.rules.specs.Lists.{lowest}
 use Rattle.rules.specs.File.{marked, isKnown}
 use Rattle.laws.specs.Search.{ahead, ahead-start, ahead-on, ahead-stop, ahead-end}
-use Rattle.file.specs.Marks.{is-known, is-unknown}
+use Rattle.file.proofs.Marks.{is-known, is-unknown}
 use Rattle.file.proofs.lowest_unknown.Statement.{statement}
 use Rattle.file.proofs.lowest_unknown.Tie as tie
 

@@ -1,5 +1,5 @@
 -- `file::read` meets its contract: each way that it ends is one of the rules'.
-use Rattle.file.specs.Reading.{too-long, uneven, too-small, unknown-mark, all-read}
+use Rattle.file.proofs.Reading.{too-long, uneven, too-small, unknown-mark, all-read}
 use borrow.Author.Needs.{needs}
 use Rattle.file.proofs.read.Statement.{statement}
 use Rattle.file.proofs.read.Tie as tie

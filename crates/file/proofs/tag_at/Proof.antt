@@ -1,5 +1,5 @@
 -- `file::tag_at` meets its contract: the mark stands at the record's first two bytes.
-use Rattle.file.specs.Marks.{marked-by}
+use Rattle.file.proofs.Marks.{marked-by}
 use borrow.Author.Needs.{needs}
 use Rattle.file.proofs.tag_at.Statement.{statement}
 use Rattle.file.proofs.tag_at.Tie as tie

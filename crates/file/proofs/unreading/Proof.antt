@@ -1,5 +1,5 @@
 -- `file::unreading` meets its contract.
-use Rattle.file.specs.Reading.{unreading-case}
+use Rattle.file.proofs.Reading.{unreading-case}
 use borrow.Author.Needs.{needs}
 use Rattle.file.proofs.unreading.Statement.{statement}
 use Rattle.file.proofs.unreading.Tie as tie

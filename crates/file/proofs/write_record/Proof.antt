@@ -1,7 +1,7 @@
 -- `file::write_record` meets its contract: its four stores are the record's words.
 use native.Mathlib.Omega.{arith}
 use lib.ListN.{length-set}
-use Rattle.file.specs.Writing.{stored-by}
+use Rattle.file.proofs.Writing.{stored-by}
 use borrow.Author.Needs.{needs}
 use Rattle.file.proofs.write_record.Statement.{statement}
 use Rattle.file.proofs.write_record.Tie as tie

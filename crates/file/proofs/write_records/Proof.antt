@@ -6,7 +6,7 @@ use native.Mathlib.Omega.{arith}
 use borrow.Author.Needs.{needs}
 use lib.ListN.{length, drop}
 use Rattle.rules.specs.File.{fileWords}
-use Rattle.file.specs.Writing.{fits-next, stored-more, all-stored}
+use Rattle.file.proofs.Writing.{fits-next, stored-more, all-stored}
 use Rattle.file.proofs.write_records.Statement.{statement}
 use Rattle.file.proofs.write_records.Tie as tie
 

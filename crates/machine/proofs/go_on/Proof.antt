@@ -1,7 +1,8 @@
 -- `machine::go_on` meets its contract.
 use Rattle.invariants.specs.Running.{ahead}
 use mathlib.Core.List.{_∷_}
-use Rattle.queue.specs.Ring.{view, fine-front, fine-some}
+use Rattle.queue.specs.Ring.{view}
+use Rattle.queue.specs.RingLaws.{fine-front, fine-some}
 use Rattle.machine.specs.Run.{Turn, Waits, turn-first, turn-stood, turn-fails, on-less, turn-on, turn-ends, turn-waits, takes-less, turn-takes}
 use denote.Ref.{now}
 use borrow.Author.Needs.{needs}

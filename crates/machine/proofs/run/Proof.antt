@@ -1,5 +1,5 @@
 -- `machine::run` meets its contract.
-use Rattle.queue.specs.Ring.{fine-front, fine-some}
+use Rattle.queue.specs.RingLaws.{fine-front, fine-some}
 use Rattle.machine.specs.Start.{set-none, set-stood, set-runs}
 use borrow.Author.Needs.{needs}
 use Rattle.machine.proofs.run.Statement.{statement}

@@ -1,5 +1,5 @@
 -- `narrow::keep_placed` meets its contract.
-use Rattle.narrow.specs.Narrowing.{narrowing-writes, narrowing-occurs, keep-all, keep-some}
+use Rattle.narrow.proofs.Narrowing.{narrowing-writes, narrowing-occurs, keep-all, keep-some}
 use borrow.Author.Needs.{needs}
 use Rattle.narrow.proofs.keep_placed.Statement.{statement}
 use Rattle.narrow.proofs.keep_placed.Tie as tie

@@ -1,5 +1,5 @@
 -- `narrow::narrow` meets its contract.
-use Rattle.narrow.specs.Narrowing.{narrowing-read, narrowing-chooses, narrowing-room, narrowing-settles, narrow-goes}
+use Rattle.narrow.proofs.Narrowing.{narrowing-read, narrowing-chooses, narrowing-room, narrowing-settles, narrow-goes}
 use borrow.Author.Needs.{needs}
 use Rattle.narrow.proofs.narrow.Statement.{statement}
 use Rattle.narrow.proofs.narrow.Tie as tie

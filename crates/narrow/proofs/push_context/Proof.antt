@@ -2,8 +2,8 @@
 use borrow.Author.Needs.{needs}
 use native.Mathlib.Omega.{arith}
 use Prim.Native.Nat.{_-_}
-use Rattle.places.specs.Filling.{fits-index, fits-next}
-use Rattle.narrow.specs.Context.{Chosen, chosen-first, chosen-read, chosen-slot, chosen-skip, chosen-takes, chosen-cells, chosen-end}
+use Rattle.places.specs.FillingLaws.{fits-index, fits-next}
+use Rattle.narrow.proofs.Context.{Chosen, chosen-first, chosen-read, chosen-slot, chosen-skip, chosen-takes, chosen-cells, chosen-end}
 use Rattle.narrow.proofs.push_context.Statement.{statement}
 use Rattle.narrow.proofs.push_context.Tie as tie
 use Rattle.narrow.proofs.push_context.Reads as reads

@@ -1,5 +1,5 @@
 -- `narrow::then_occurrence` meets its contract.
-use Rattle.narrow.specs.Narrowing.{occurring-writes, occurring-stops, occurring-goes}
+use Rattle.narrow.proofs.Narrowing.{occurring-writes, occurring-stops, occurring-goes}
 use borrow.Author.Needs.{needs}
 use Rattle.narrow.proofs.then_occurrence.Statement.{statement}
 use Rattle.narrow.proofs.then_occurrence.Tie as tie

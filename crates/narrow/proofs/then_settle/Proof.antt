@@ -1,6 +1,6 @@
 -- `narrow::then_settle` meets its contract.
-use Rattle.narrow.specs.Narrowing.{settling-writes, settle-stops, settle-goes}
-use Rattle.store.specs.Push.{then²-stops}
+use Rattle.narrow.proofs.Narrowing.{settling-writes, settle-stops, settle-goes}
+use Rattle.store.specs.SaidLaws.{then²-stops}
 use borrow.Author.Needs.{needs}
 use Rattle.narrow.proofs.then_settle.Statement.{statement}
 use Rattle.narrow.proofs.then_settle.Tie as tie

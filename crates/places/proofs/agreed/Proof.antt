@@ -1,6 +1,6 @@
 -- `places::agreed` meets its contract.
 use borrow.Author.Needs.{needs}
-use Rattle.places.specs.Agree.{agreed-same, agreed-not}
+use Rattle.places.proofs.Agree.{agreed-same, agreed-not}
 use Rattle.places.proofs.agreed.Statement.{statement}
 use Rattle.places.proofs.agreed.Tie as tie
 use Rattle.places.proofs.agreed.Reads as reads

@@ -1,8 +1,8 @@
 -- `places::agreeing` meets its contract.
 use borrow.Author.Needs.{needs}
 use Rattle.laws.specs.Lists.{size}
-use Rattle.places.specs.Filling.{fits-index, fits-next}
-use Rattle.places.specs.Agree.{Along, along-first, along-end, along-left, along-right, along-room, along-one, along-two, along-falls, along-more}
+use Rattle.places.specs.FillingLaws.{fits-index, fits-next}
+use Rattle.places.proofs.Agree.{Along, along-first, along-end, along-left, along-right, along-room, along-one, along-two, along-falls, along-more}
 use Rattle.places.proofs.agreeing.Statement.{statement}
 use Rattle.places.proofs.agreeing.Tie as tie
 use Rattle.places.proofs.agreeing.Reads as reads

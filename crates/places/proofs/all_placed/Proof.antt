@@ -1,7 +1,7 @@
 -- `places::all_placed` meets its contract.
 use native.Mathlib.Omega.{arith}
 use Prim.Native.Nat.{_-_}
-use Rattle.places.specs.Placed.{Passed, passed-first, passed-on, not-passed, all-passed}
+use Rattle.places.proofs.Placed.{Passed, passed-first, passed-on, not-passed, all-passed}
 use Rattle.places.proofs.all_placed.Statement.{statement}
 use Rattle.places.proofs.all_placed.Tie as tie
 use Rattle.places.proofs.all_placed.Reads as reads

@@ -1,8 +1,8 @@
 -- `places::arguments` meets its contract.
 use borrow.Author.Needs.{needs}
 use Rattle.laws.specs.Lists.{size}
-use Rattle.places.specs.Filling.{Filling, filling-first, filling-cell, filling-elem, filling-room, filling-falls, filling-more, filling-end, fits-index, fits-next}
-use Rattle.places.specs.Arguments.{variableAt, arguments-are}
+use Rattle.places.specs.FillingLaws.{Filling, filling-first, filling-cell, filling-elem, filling-room, filling-falls, filling-more, filling-end, fits-index, fits-next}
+use Rattle.places.proofs.Filled.{variableAt, arguments-are}
 use Rattle.places.proofs.arguments.Statement.{statement}
 use Rattle.places.proofs.arguments.Tie as tie
 use Rattle.places.proofs.arguments.Reads as reads

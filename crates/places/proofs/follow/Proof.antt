@@ -1,11 +1,11 @@
 -- `places::follow` meets its contract.
 use borrow.Author.Needs.{needs}
 use Rattle.laws.specs.Lists.{size}
-use Rattle.places.specs.Filling.{filling-cell, filling-elem, filling-room, filling-falls, filling-end, fits-index, fits-next}
-use Rattle.places.specs.Along.{Along, along-first}
+use Rattle.places.specs.FillingLaws.{filling-cell, filling-elem, filling-room, filling-falls, filling-end, fits-index, fits-next}
+use Rattle.places.specs.AlongLaws.{Along, along-first}
 use Rattle.places.specs.Looking.{Within}
 use Rattle.places.specs.Maps.{mapOf}
-use Rattle.places.specs.Follow.{followAt, follow-here, follow-more, follows}
+use Rattle.places.specs.FollowLaws.{followAt, follow-here, follow-more, follows}
 use Rattle.places.proofs.follow.Statement.{statement}
 use Rattle.places.proofs.follow.Tie as tie
 use Rattle.places.proofs.follow.Reads as reads

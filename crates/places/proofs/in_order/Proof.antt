@@ -1,8 +1,8 @@
 -- `places::in_order` meets its contract.
 use borrow.Author.Needs.{needs}
 use Rattle.laws.specs.Lists.{size}
-use Rattle.places.specs.Filling.{Filling, filling-first, filling-cell, filling-room, filling-falls, filling-more, filling-end, fits-index, fits-next, fits-place}
-use Rattle.places.specs.Arguments.{positionAt, in-order}
+use Rattle.places.specs.FillingLaws.{Filling, filling-first, filling-cell, filling-room, filling-falls, filling-more, filling-end, fits-index, fits-next, fits-place}
+use Rattle.places.proofs.Filled.{positionAt, in-order}
 use Rattle.places.proofs.in_order.Statement.{statement}
 use Rattle.places.proofs.in_order.Tie as tie
 use Rattle.places.proofs.in_order.Reads as reads

@@ -1,6 +1,6 @@
 -- `places::look` meets its contract.
 use borrow.Author.Needs.{needs}
-use Rattle.places.specs.Looking.{within-at, look-above, look-inside}
+use Rattle.places.specs.LookingLaws.{within-at, look-above, look-inside}
 use Rattle.places.proofs.look.Statement.{statement}
 use Rattle.places.proofs.look.Tie as tie
 use Rattle.places.proofs.look.Reads as reads

@@ -1,6 +1,6 @@
 -- `places::place_at` meets its contract.
 use borrow.Author.Needs.{needs}
-use Rattle.places.specs.Looking.{place-none, place-some}
+use Rattle.places.specs.LookingLaws.{place-none, place-some}
 use Rattle.places.proofs.place_at.Statement.{statement}
 use Rattle.places.proofs.place_at.Tie as tie
 use Rattle.places.proofs.place_at.Reads as reads

@@ -1,6 +1,6 @@
 -- `places::place_of` meets its contract.
 use borrow.Author.Needs.{needs}
-use Rattle.places.specs.Looking.{within-out, place-inner, led-out, led-at, led-fits}
+use Rattle.places.specs.LookingLaws.{within-out, place-inner, led-out, led-at, led-fits}
 use Rattle.places.proofs.place_of.Statement.{statement}
 use Rattle.places.proofs.place_of.Tie as tie
 use Rattle.places.proofs.place_of.Reads as reads

@@ -1,6 +1,6 @@
 -- `places::place_or_none` meets its contract.
 use borrow.Author.Needs.{needs}
-use Rattle.places.specs.Looking.{placed-seat, no-seat}
+use Rattle.places.specs.LookingLaws.{placed-seat, no-seat}
 use Rattle.places.proofs.place_or_none.Statement.{statement}
 use Rattle.places.proofs.place_or_none.Tie as tie
 use Rattle.places.proofs.place_or_none.Reads as reads

@@ -1,7 +1,7 @@
 -- `places::position_of` meets its contract.
 use native.Mathlib.Omega.{arith}
 use Prim.Native.Nat.{_-_}
-use Rattle.places.specs.Looking.{Ahead, ahead-first, ahead-hit, ahead-on, ahead-end}
+use Rattle.places.specs.LookingLaws.{Ahead, ahead-first, ahead-hit, ahead-on, ahead-end}
 use Rattle.places.proofs.position_of.Statement.{statement}
 use Rattle.places.proofs.position_of.Tie as tie
 use Rattle.places.proofs.position_of.Reads as reads

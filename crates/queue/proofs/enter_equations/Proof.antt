@@ -2,7 +2,7 @@
 use Prim.Native.Nat.{_-_}
 use mir.Facts.{fits-widen}
 use borrow.Author.Needs.{needs}
-use Rattle.queue.specs.Equations.{Entered, entered-first, entering-place, entering-noted, entering-read, entered-full, entering-room, entered-one, entered-end}
+use Rattle.queue.proofs.Equations.{Entered, entered-first, entering-place, entering-noted, entering-read, entered-full, entering-room, entered-one, entered-end}
 use Rattle.queue.proofs.enter_equations.Statement.{statement}
 use Rattle.queue.proofs.enter_equations.Tie as tie
 use Rattle.queue.proofs.enter_equations.Reads as reads

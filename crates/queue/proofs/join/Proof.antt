@@ -1,7 +1,7 @@
 -- `queue::join` meets its contract.
 use native.Mathlib.Omega.{arith}
 use lib.ListN.{length-set}
-use Rattle.queue.specs.Ring.{joins-at}
+use Rattle.queue.proofs.Joining.{joins-at}
 use borrow.Author.Needs.{needs}
 use Rattle.queue.proofs.join.Statement.{statement}
 use Rattle.queue.proofs.join.Tie as tie

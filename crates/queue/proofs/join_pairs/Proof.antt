@@ -1,7 +1,7 @@
 -- `queue::join_pairs` meets its contract.
 use borrow.Author.Needs.{needs}
 use Rattle.laws.specs.Lists.{size}
-use Rattle.queue.specs.Arguments.{Turn, turn-first, turn-ends, turn-full, turn-left, turn-right, turn-room, turn-less, turn-next}
+use Rattle.queue.proofs.Arguments.{Turn, turn-first, turn-ends, turn-full, turn-left, turn-right, turn-room, turn-less, turn-next}
 use Rattle.queue.proofs.join_pairs.Statement.{statement}
 use Rattle.queue.proofs.join_pairs.Tie as tie
 use Rattle.queue.proofs.join_pairs.Reads as reads

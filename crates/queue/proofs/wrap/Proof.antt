@@ -1,5 +1,5 @@
 -- `queue::wrap` meets its contract.
-use Rattle.queue.specs.Ring.{wraps-in, wraps-out}
+use Rattle.queue.proofs.Joining.{wraps-in, wraps-out}
 use Rattle.queue.proofs.wrap.Statement.{statement}
 use Rattle.queue.proofs.wrap.Tie as tie
 use Rattle.queue.proofs.wrap.Reads as reads

@@ -1,6 +1,6 @@
 -- `rewrite::renamed` meets its contract.
 use borrow.Author.Needs.{needs}
-use Rattle.rewrite.specs.Renamed.{renamed-inner, renamed-in, renamed-fits, renamed-outer}
+use Rattle.rewrite.proofs.Renames.{renamed-inner, renamed-in, renamed-fits, renamed-outer}
 use borrow.Author.Needs.{needs}
 use Rattle.rewrite.proofs.renamed.Statement.{statement}
 use Rattle.rewrite.proofs.renamed.Tie as tie

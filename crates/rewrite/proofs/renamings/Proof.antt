@@ -1,9 +1,9 @@
 -- `rewrite::renamings` meets its contract.
 use borrow.Author.Needs.{needs}
 use Rattle.laws.specs.Lists.{size}
-use Rattle.places.specs.Filling.{filling-cell, filling-elem, filling-room, filling-falls, filling-end, fits-index, fits-next}
-use Rattle.places.specs.Follow.{follows}
-use Rattle.rewrite.specs.Renamings.{Turn, turn-first, turn-renames, turn-next}
+use Rattle.places.specs.FillingLaws.{filling-cell, filling-elem, filling-room, filling-falls, filling-end, fits-index, fits-next}
+use Rattle.places.specs.FollowLaws.{follows}
+use Rattle.rewrite.proofs.Follows.{Turn, turn-first, turn-renames, turn-next}
 use Rattle.rewrite.proofs.renamings.Statement.{statement}
 use Rattle.rewrite.proofs.renamings.Tie as tie
 use Rattle.rewrite.proofs.renamings.Reads as reads

@@ -1,6 +1,6 @@
 -- `rewrite::then_lambdas` meets its contract.
 use borrow.Author.Needs.{needs}
-use Rattle.rewrite.specs.Lambdas.{Turn, turn-first, turn-room, turn-since, turn-same, turn-ends, turn-next}
+use Rattle.rewrite.proofs.Lambdas.{Turn, turn-first, turn-room, turn-since, turn-same, turn-ends, turn-next}
 use Rattle.rewrite.proofs.then_lambdas.Statement.{statement}
 use Rattle.rewrite.proofs.then_lambdas.Tie as tie
 use Rattle.rewrite.proofs.then_lambdas.Reads as reads

@@ -4,16 +4,17 @@ use Prim.Native.Nat.{suc}
 use mathlib.Core.Bool.{false}
 use mathlib.Core.Logic.{⊎-elim}
 use Rattle.laws.specs.Lists.{size}
-use Rattle.places.specs.Filling.{fits-index, fits-next}
+use Rattle.places.specs.FillingLaws.{fits-index, fits-next}
 use Rattle.invariants.specs.Rise.{reach}
 use Rattle.places.specs.Maps.{mapOf}
-use Rattle.rewrite.specs.Levels.{Headed, head-named}
-use Rattle.show.specs.Shows.{Gives, show-leaf, hole-written}
-use Rattle.show.specs.Ready.{ReadyTerm, to-read, to-above, to-push, to-then, to-names, fall-hole, to-hole, shows-occurrence, to-name, head-kept, fall-args, to-args, shows-rigid, to-solution, to-write, fall-solution, to-term, shows-solution}
-use Rattle.rewrite.specs.Below.{Below, below-first, below-depth, below-less, below-read, below-next, below-plain, below-then}
-use Rattle.show.specs.Below.{opens, below-ends}
-use Rattle.rewrite.specs.Each.{turn-first, turn-kept, turn-array, turn-cells, turn-ends, turn-less, room-left, turn-stops, turn-next}
-use Rattle.show.specs.Each.{Turn, splits, turn-read, turn-falls, turn-head}
+use Rattle.rewrite.specs.LevelsLaws.{Headed, head-named}
+use Rattle.show.proofs.Shows.{Gives, show-leaf, hole-written}
+use Rattle.show.specs.Ready.{ReadyTerm}
+use Rattle.show.proofs.Ready.{to-read, to-above, to-push, to-then, to-names, fall-hole, to-hole, shows-occurrence, to-name, head-kept, fall-args, to-args, shows-rigid, to-solution, to-write, fall-solution, to-term, shows-solution}
+use Rattle.rewrite.specs.BelowLaws.{Below, below-first, below-depth, below-less, below-read, below-next, below-plain, below-then}
+use Rattle.show.proofs.Below.{opens, below-ends}
+use Rattle.rewrite.specs.EachLaws.{turn-first, turn-kept, turn-array, turn-cells, turn-ends, turn-less, room-left, turn-stops, turn-next}
+use Rattle.show.proofs.Each.{Turn, splits, turn-read, turn-falls, turn-head}
 use Prim.Native.Nat.{ℕ, _+_, _*_, _<_}
 use borrow.Fn.Kinds.{In}
 use borrow.Fn.PlainCycle.{Measures, is, falls, and}

@@ -1,5 +1,5 @@
 -- `show::answer` meets its contract.
-use Rattle.show.specs.Answer.{answer-read, answer-counts, answer-ready, answered}
+use Rattle.show.proofs.Answering.{answer-read, answer-counts, answer-ready, answered}
 use borrow.Author.Needs.{needs}
 use Rattle.show.proofs.answer.Statement.{statement}
 use Rattle.show.proofs.answer.Tie as tie

@@ -1,5 +1,5 @@
 -- `step::agreement` meets its contract.
-use Rattle.step.specs.Same.{compares, agreed}
+use Rattle.step.proofs.Same.{compares, agreed}
 use borrow.Author.Needs.{needs}
 use Rattle.step.proofs.agreement.Statement.{statement}
 use Rattle.step.proofs.agreement.Tie as tie

@@ -1,5 +1,5 @@
 -- `step::done` meets its contract.
-use Rattle.step.specs.Said.{finish-stops, finish-goes}
+use Rattle.step.proofs.Said.{finish-stops, finish-goes}
 use borrow.Author.Needs.{needs}
 use Rattle.step.proofs.done.Statement.{statement}
 use Rattle.step.proofs.done.Tie as tie

@@ -1,7 +1,7 @@
 -- `step::expand` meets its contract.
 use borrow.Author.Needs.{needs}
 use Prim.Native.Nat.{_-_}
-use Rattle.step.specs.Expand.{Turn, turn-first, turn-same, turn-held, turn-heads, turn-done, turn-copies, turn-fails, turn-less, turn-next}
+use Rattle.step.proofs.Expanding.{Turn, turn-first, turn-same, turn-held, turn-heads, turn-done, turn-copies, turn-fails, turn-less, turn-next}
 use Rattle.step.proofs.expand.Statement.{statement}
 use Rattle.step.proofs.expand.Tie as tie
 use Rattle.step.proofs.expand.Reads as reads

@@ -1,5 +1,5 @@
 -- `step::head_solution` meets its contract.
-use Rattle.step.specs.Expand.{head-hole, head-other, heading-held}
+use Rattle.step.proofs.Expanding.{head-hole, head-other, heading-held}
 use borrow.Author.Needs.{needs}
 use Rattle.step.proofs.head_solution.Statement.{statement}
 use Rattle.step.proofs.head_solution.Tie as tie

@@ -1,5 +1,5 @@
 -- `step::join_arguments` meets its contract.
-use Rattle.step.specs.Arguments.{argues-full, argues-joins}
+use Rattle.step.proofs.Arguments.{argues-full, argues-joins}
 use borrow.Author.Needs.{needs}
 use Rattle.step.proofs.join_arguments.Statement.{statement}
 use Rattle.step.proofs.join_arguments.Tie as tie

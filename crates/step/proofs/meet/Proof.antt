@@ -1,5 +1,5 @@
 -- `step::meet` meets its contract.
-use Rattle.step.specs.Stand.{stood-terms, stood-argues, stood-same, stood-solve, met-bodies, met-arguments, met-same, met-solve, met-clash}
+use Rattle.step.proofs.Stand.{stood-terms, stood-argues, stood-same, stood-solve, met-bodies, met-arguments, met-same, met-solve, met-clash}
 use borrow.Author.Needs.{needs}
 use Rattle.step.proofs.meet.Statement.{statement}
 use Rattle.step.proofs.meet.Tie as tie

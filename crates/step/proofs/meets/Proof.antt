@@ -1,5 +1,5 @@
 -- `step::meets` meets its contract.
-use Rattle.step.specs.Meets.{meets-bodies, meets-same, meets-arguments, meets-left, meets-right, meets-clash}
+use Rattle.step.proofs.Choosing.{meets-bodies, meets-same, meets-arguments, meets-left, meets-right, meets-clash}
 use borrow.Author.Needs.{needs}
 use Rattle.step.proofs.meets.Statement.{statement}
 use Rattle.step.proofs.meets.Tie as tie

@@ -1,5 +1,5 @@
 -- `step::narrowing_done` meets its contract.
-use Rattle.step.specs.Said.{narrowed-stops, narrowed-goes}
+use Rattle.step.proofs.Said.{narrowed-stops, narrowed-goes}
 use borrow.Author.Needs.{needs}
 use Rattle.step.proofs.narrowing_done.Statement.{statement}
 use Rattle.step.proofs.narrowing_done.Tie as tie

@@ -1,5 +1,5 @@
 -- `step::same_head` meets its contract.
-use Rattle.step.specs.Meets.{second-tested, first-fails}
+use Rattle.step.proofs.Choosing.{second-tested, first-fails}
 use Rattle.step.proofs.same_head.Statement.{statement}
 use Rattle.step.proofs.same_head.Tie as tie
 use Rattle.step.proofs.same_head.Reads as reads

@@ -1,5 +1,5 @@
 -- `step::same_hole` meets its contract.
-use Rattle.step.specs.Same.{same-read, same-occurs, same-narrows, same-all, same-some}
+use Rattle.step.proofs.Same.{same-read, same-occurs, same-narrows, same-all, same-some}
 use borrow.Author.Needs.{needs}
 use Rattle.step.proofs.same_hole.Statement.{statement}
 use Rattle.step.proofs.same_hole.Tie as tie

@@ -1,5 +1,5 @@
 -- `step::take_step` meets its contract.
-use Rattle.step.specs.Taken.{expands-left, left-expanded, taken}
+use Rattle.step.proofs.Taken.{expands-left, left-expanded, taken}
 use borrow.Author.Needs.{needs}
 use Rattle.step.proofs.take_step.Statement.{statement}
 use Rattle.step.proofs.take_step.Tie as tie

@@ -1,5 +1,5 @@
 -- `step::then_meet` meets its contract.
-use Rattle.step.specs.Taken.{then-fails, awaits-stood, then-meets}
+use Rattle.step.proofs.Taken.{then-fails, awaits-stood, then-meets}
 use borrow.Author.Needs.{needs}
 use Rattle.step.proofs.then_meet.Statement.{statement}
 use Rattle.step.proofs.then_meet.Tie as tie

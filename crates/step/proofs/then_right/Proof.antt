@@ -1,5 +1,5 @@
 -- `step::then_right` meets its contract.
-use Rattle.step.specs.Taken.{then-fails, waits-expands, waits-awaits, then-expands}
+use Rattle.step.proofs.Taken.{then-fails, waits-expands, waits-awaits, then-expands}
 use borrow.Author.Needs.{needs}
 use Rattle.step.proofs.then_right.Statement.{statement}
 use Rattle.step.proofs.then_right.Tie as tie

@@ -1,5 +1,5 @@
 -- `step::two_lambdas` meets its contract.
-use Rattle.step.specs.Meets.{second-tested, first-fails}
+use Rattle.step.proofs.Choosing.{second-tested, first-fails}
 use Rattle.step.proofs.two_lambdas.Statement.{statement}
 use Rattle.step.proofs.two_lambdas.Tie as tie
 use Rattle.step.proofs.two_lambdas.Reads as reads

@@ -1,6 +1,6 @@
 -- `store::clear` meets its contract.
 use borrow.Author.Needs.{needs}
-use Rattle.store.specs.Clearing.{cleared}
+use Rattle.store.specs.ClearingLaws.{cleared}
 use Rattle.store.proofs.clear.Statement.{statement}
 use Rattle.store.proofs.clear.Tie as tie
 use Rattle.store.proofs.clear.Reads as reads

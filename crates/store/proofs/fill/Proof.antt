@@ -1,5 +1,5 @@
 -- `store::fill` meets its contract.
-use Rattle.store.specs.Filled.{part-filled}
+use Rattle.store.proofs.Filled.{part-filled}
 use borrow.Author.Needs.{needs}
 use Rattle.store.proofs.fill.Statement.{statement}
 use Rattle.store.proofs.fill.Tie as tie

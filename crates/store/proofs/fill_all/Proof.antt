@@ -5,7 +5,7 @@ use mathlib.Core.Path.{_≡_, refl}
 use mathlib.Core.List.{_++_}
 use Prim.Native.Nat.{_≤_, _-_, zero-le}
 use lib.ListN.{length, replicate, drop, length-set}
-use Rattle.store.specs.Filled.{filled-more, filled-all}
+use Rattle.store.proofs.Filled.{filled-more, filled-all}
 use Rattle.store.proofs.fill_all.Statement.{statement}
 use Rattle.store.proofs.fill_all.Tie as tie
 use Rattle.store.proofs.fill_all.Reads as reads

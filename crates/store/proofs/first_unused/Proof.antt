@@ -1,7 +1,8 @@
 -- `store::first_unused` meets its contract: the first unused record stays between the bounds.
 use Prim.Native.Nat.{_-_}
 use borrow.Author.Needs.{needs}
-use Rattle.store.specs.Unused.{Unused, unused-all, unused-lower, unused-higher, unused-found}
+use Rattle.store.specs.Unused.{Unused}
+use Rattle.store.proofs.Unused.{unused-all, unused-lower, unused-higher, unused-found}
 use Rattle.store.proofs.first_unused.Statement.{statement}
 use Rattle.store.proofs.first_unused.Tie as tie
 use Rattle.store.proofs.first_unused.Reads as reads

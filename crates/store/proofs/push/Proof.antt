@@ -1,5 +1,5 @@
 -- `store::push` meets its contract.
-use Rattle.store.specs.Push.{push-part, push-full}
+use Rattle.store.proofs.Pushing.{push-part, push-full}
 use borrow.Author.Needs.{needs}
 use Rattle.store.proofs.push.Statement.{statement}
 use Rattle.store.proofs.push.Tie as tie

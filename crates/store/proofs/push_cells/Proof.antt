@@ -1,7 +1,7 @@
 -- `store::push_cells` meets its contract.
 use borrow.Author.Needs.{needs}
 use native.Mathlib.Omega.{arith}
-use Rattle.store.specs.Cells.{Behind, behind-first, behind-asks, behind-stops, behind-more, behind-end}
+use Rattle.store.proofs.Cells.{Behind, behind-first, behind-asks, behind-stops, behind-more, behind-end}
 use Rattle.store.proofs.push_cells.Statement.{statement}
 use Rattle.store.proofs.push_cells.Tie as tie
 use Rattle.store.proofs.push_cells.Reads as reads

@@ -1,5 +1,5 @@
 -- `store::push_occurrence` meets its contract.
-use Rattle.store.specs.Writing.{occurrence-goes}
+use Rattle.store.proofs.Writing.{occurrence-goes}
 use borrow.Author.Needs.{needs}
 use Rattle.store.proofs.push_occurrence.Statement.{statement}
 use Rattle.store.proofs.push_occurrence.Tie as tie

@@ -2,8 +2,8 @@
 use borrow.Author.Needs.{needs}
 use native.Mathlib.Omega.{arith}
 use Prim.Native.Nat.{_-_}
-use Rattle.places.specs.Filling.{fits-index, fits-next}
-use Rattle.store.specs.Writing.{Named, named-first, named-slot, named-skip, named-stops, named-takes, named-cells, named-end}
+use Rattle.places.specs.FillingLaws.{fits-index, fits-next}
+use Rattle.store.proofs.Writing.{Named, named-first, named-slot, named-skip, named-stops, named-takes, named-cells, named-end}
 use Rattle.store.proofs.push_variables.Statement.{statement}
 use Rattle.store.proofs.push_variables.Tie as tie
 use Rattle.store.proofs.push_variables.Reads as reads

@@ -1,5 +1,5 @@
 -- `store::solution_of` meets its contract.
-use Rattle.store.specs.Part.{getD-within}
+use Rattle.store.proofs.Part.{getD-within}
 use borrow.Author.Needs.{needs}
 use Rattle.store.proofs.solution_of.Statement.{statement}
 use Rattle.store.proofs.solution_of.Tie as tie

@@ -1,6 +1,6 @@
 -- `store::then_over` meets its contract.
-use Rattle.store.specs.Said.{from-since}
-use Rattle.store.specs.Push.{over-goes, then-stops}
+use Rattle.store.specs.SaidLaws.{from-since}
+use Rattle.store.proofs.Pushing.{over-goes, then-stops}
 use borrow.Author.Needs.{needs}
 use Rattle.store.proofs.then_over.Statement.{statement}
 use Rattle.store.proofs.then_over.Tie as tie

@@ -1,6 +1,6 @@
 -- `store::then_under` meets its contract.
-use Rattle.store.specs.Said.{from-since}
-use Rattle.store.specs.Push.{under-goes, then-stops}
+use Rattle.store.specs.SaidLaws.{from-since}
+use Rattle.store.proofs.Pushing.{under-goes, then-stops}
 use borrow.Author.Needs.{needs}
 use Rattle.store.proofs.then_under.Statement.{statement}
 use Rattle.store.proofs.then_under.Tie as tie

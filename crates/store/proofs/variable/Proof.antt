@@ -1,6 +1,6 @@
 -- `store::variable` meets its contract.
 use borrow.Author.Needs.{needs}
-use Rattle.store.specs.Writing.{variable-from, variable-to}
+use Rattle.store.proofs.Writing.{variable-from, variable-to}
 use Rattle.store.proofs.variable.Statement.{statement}
 use Rattle.store.proofs.variable.Tie as tie
 use Rattle.store.proofs.variable.Reads as reads

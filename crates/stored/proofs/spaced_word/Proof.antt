@@ -1,6 +1,6 @@
 -- `stored::spaced_word` meets its contract: the space, then the number.
 use borrow.Author.Needs.{needs}
-use Rattle.text.specs.Parts.{byte-then}
+use Rattle.text.specs.WrittenLaws.{byte-then}
 use Rattle.stored.proofs.spaced_word.Statement.{statement}
 use Rattle.stored.proofs.spaced_word.Tie as tie
 

@@ -2,8 +2,8 @@
 use borrow.Author.Needs.{needs}
 use mathlib.Core.Path.{refl}
 use Rattle.laws.specs.Lists.{size}
-use Rattle.text.specs.Falling.{term-inside, to-body, fall-body, to-list, fall-list, cell-inside, to-first, fall-first, to-rest, fall-rest}
-use Rattle.text.specs.Parts.{writes-lambda, writes-applied, writes-no-list, writes-list}
+use Rattle.text.proofs.Falling.{term-inside, to-body, fall-body, to-list, fall-list, cell-inside, to-first, fall-first, to-rest, fall-rest}
+use Rattle.text.proofs.Parts.{writes-lambda, writes-applied, writes-no-list, writes-list}
 use Prim.Native.Nat.{ℕ, _+_, _<_}
 use borrow.Fn.Kinds.{In}
 use borrow.Fn.PlainCycle.{Measures, is, falls, and}

@@ -1,7 +1,7 @@
 -- `text::decimal` meets its contract: a digit, or the digits of a tenth and one more.
 use borrow.Author.Needs.{needs}
 use native.Mathlib.Omega.{arith}
-use Rattle.text.specs.Decimal.{writes-digit, writes-digits}
+use Rattle.text.proofs.Digits.{writes-digit, writes-digits}
 use Prim.Native.Nat.{ℕ, _<_}
 use borrow.Fn.Kinds.{In}
 use borrow.Fn.PlainCycle.{Measures, is, falls, and}

@@ -1,5 +1,5 @@
 -- `text::answer` meets its contract: a term, or a question mark.
-use Rattle.text.specs.Lines.{answered-some, answered-term, writes-answer, writes-none}
+use Rattle.text.proofs.Lines.{answered-some, answered-term, writes-answer, writes-none}
 use borrow.Author.Needs.{needs}
 use Rattle.text.proofs.answer.Statement.{statement}
 use Rattle.text.proofs.answer.Tie as tie

@@ -1,6 +1,6 @@
 -- `text::close_list` meets its contract: nothing is closed after an empty list.
 use mathlib.Core.Path.{refl}
-use Rattle.text.specs.Parts.{closes-nothing, closes}
+use Rattle.text.proofs.Parts.{closes-nothing, closes}
 use borrow.Author.Needs.{needs}
 use Rattle.text.proofs.close_list.Statement.{statement}
 use Rattle.text.proofs.close_list.Tie as tie

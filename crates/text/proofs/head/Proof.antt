@@ -1,5 +1,5 @@
 -- `text::head` meets its contract: the letter, then the number.
-use Rattle.text.specs.Parts.{writes-head}
+use Rattle.text.proofs.Parts.{writes-head}
 use borrow.Author.Needs.{needs}
 use Rattle.text.proofs.head.Statement.{statement}
 use Rattle.text.proofs.head.Tie as tie

@@ -1,5 +1,5 @@
 -- `text::hole_line` meets its contract: start, answer and newline one after another.
-use Rattle.text.specs.Lines.{writes-line}
+use Rattle.text.proofs.Lines.{writes-line}
 use borrow.Author.Needs.{needs}
 use Rattle.text.proofs.hole_line.Statement.{statement}
 use Rattle.text.proofs.hole_line.Tie as tie

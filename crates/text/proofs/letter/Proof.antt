@@ -1,5 +1,5 @@
 -- `text::letter` meets its contract: the letter goes by the tag.
-use Rattle.text.specs.Printed.{letter-constant, letter-variable, letter-hole}
+use Rattle.text.proofs.Printed.{letter-constant, letter-variable, letter-hole}
 use Rattle.text.proofs.letter.Statement.{statement}
 use Rattle.text.proofs.letter.Tie as tie
 

@@ -1,5 +1,5 @@
 -- `text::number` meets its contract: the digits, then the byte.
-use Rattle.text.specs.Lines.{writes-number}
+use Rattle.text.proofs.Lines.{writes-number}
 use borrow.Author.Needs.{needs}
 use Rattle.text.proofs.number.Statement.{statement}
 use Rattle.text.proofs.number.Tie as tie

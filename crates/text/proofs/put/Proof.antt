@@ -1,6 +1,6 @@
 -- `text::put` meets its contract: a byte inside the buffer is stored, one past its end is dropped.
 use native.Mathlib.Omega.{arith}
-use Rattle.text.specs.Written.{written-inside, written-past, written-farthest}
+use Rattle.text.specs.WrittenLaws.{written-inside, written-past, written-farthest}
 use borrow.Author.Needs.{needs}
 use Rattle.text.proofs.put.Statement.{statement}
 use Rattle.text.proofs.put.Tie as tie

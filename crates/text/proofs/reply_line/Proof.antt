@@ -1,5 +1,5 @@
 -- `text::reply_line` meets its contract: three numbers, each with the byte after it.
-use Rattle.text.specs.Lines.{writes-reply}
+use Rattle.text.proofs.Lines.{writes-reply}
 use borrow.Author.Needs.{needs}
 use Rattle.text.proofs.reply_line.Statement.{statement}
 use Rattle.text.proofs.reply_line.Tie as tie

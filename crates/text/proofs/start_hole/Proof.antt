@@ -1,5 +1,5 @@
 -- `text::start_hole` meets its contract: its four parts one after another.
-use Rattle.text.specs.Lines.{writes-start}
+use Rattle.text.proofs.Lines.{writes-start}
 use borrow.Author.Needs.{needs}
 use Rattle.text.proofs.start_hole.Statement.{statement}
 use Rattle.text.proofs.start_hole.Tie as tie

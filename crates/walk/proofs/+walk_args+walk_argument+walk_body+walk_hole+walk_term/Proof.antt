@@ -3,16 +3,17 @@ use borrow.Author.Needs.{needs}
 use Prim.Native.Nat.{ℕ, suc, _+_, _*_, _<_}
 use denote.Ref.{now}
 use Rattle.laws.specs.Lists.{size}
-use Rattle.places.specs.Filling.{fits-index, fits-next}
+use Rattle.places.specs.FillingLaws.{fits-index, fits-next}
 use Rattle.invariants.specs.Rise.{reach}
-use Rattle.rewrite.specs.Below.{Below, below-first, below-depth, below-less, below-read, below-next, below-plain, below-then}
-use Rattle.walk.specs.Walks.{Gives, walk-escape, hole-occurs, hole-keeps}
-use Rattle.walk.specs.Ready.{ReadyTerm, fall-argument, fall-hole, to-read, look, in-scope, to-hole, walked-hole, to-names, to-write, walked-kept, to-follow, to-solution, to-keep, to-raise, Hopping, fall-hop, to-hop, hops}
-use Rattle.walk.specs.Below.{opens, fall-body, below-ends}
-use Rattle.walk.specs.Body.{Rigid, term-room, term-since, leaf-walked, body-rigid, rigid-leaf, rigid-args, fall-args, rigid-room, rigid-ends}
-use Rattle.walk.specs.First.{args-list, args-read, args-room, only-ready, fall-only, only-walked}
-use Rattle.rewrite.specs.Each.{turn-first, turn-kept, turn-held, turn-holds, turn-array, turn-cells, turn-ends, turn-less, room-left, turn-stops, turn-next}
-use Rattle.walk.specs.Each.{Turn, splits, turn-read, turn-falls, turn-head}
+use Rattle.rewrite.specs.BelowLaws.{Below, below-first, below-depth, below-less, below-read, below-next, below-plain, below-then}
+use Rattle.walk.proofs.Walks.{Gives, walk-escape, hole-occurs, hole-keeps}
+use Rattle.walk.specs.Ready.{ReadyTerm}
+use Rattle.walk.proofs.Ready.{fall-argument, fall-hole, to-read, look, in-scope, to-hole, walked-hole, to-names, to-write, walked-kept, to-follow, to-solution, to-keep, to-raise, Hopping, fall-hop, to-hop, hops}
+use Rattle.walk.proofs.Below.{opens, fall-body, below-ends}
+use Rattle.walk.proofs.Body.{Rigid, term-room, term-since, leaf-walked, body-rigid, rigid-leaf, rigid-args, fall-args, rigid-room, rigid-ends}
+use Rattle.walk.proofs.First.{args-list, args-read, args-room, only-ready, fall-only, only-walked}
+use Rattle.rewrite.specs.EachLaws.{turn-first, turn-kept, turn-held, turn-holds, turn-array, turn-cells, turn-ends, turn-less, room-left, turn-stops, turn-next}
+use Rattle.walk.proofs.Each.{Turn, splits, turn-read, turn-falls, turn-head}
 use borrow.Fn.Kinds.{In}
 use borrow.Fn.PlainCycle.{Measures, is, falls, and}
 use Rattle.walk.proofs.walk_args.Reads as walk-args

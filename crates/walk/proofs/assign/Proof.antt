@@ -1,5 +1,5 @@
 -- `walk::assign` meets its contract.
-use Rattle.walk.specs.Assign.{assign-read, assign-counts, assign-walks, assign-held, assigned}
+use Rattle.walk.proofs.Assigning.{assign-read, assign-counts, assign-walks, assign-held, assigned}
 use borrow.Author.Needs.{needs}
 use Rattle.walk.proofs.assign.Statement.{statement}
 use Rattle.walk.proofs.assign.Tie as tie

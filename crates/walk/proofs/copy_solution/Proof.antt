@@ -1,5 +1,5 @@
 -- `walk::copy_solution` meets its contract.
-use Rattle.walk.specs.Solution.{copying-read, copying-counts, copying-ready, solution-copied}
+use Rattle.walk.proofs.Solution.{copying-read, copying-counts, copying-ready, solution-copied}
 use borrow.Author.Needs.{needs}
 use Rattle.walk.proofs.copy_solution.Statement.{statement}
 use Rattle.walk.proofs.copy_solution.Tie as tie

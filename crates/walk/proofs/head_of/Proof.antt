@@ -1,5 +1,5 @@
 -- `walk::head_of` meets its contract.
-use Rattle.walk.specs.Head.{head-placed, head-lost, head-constant}
+use Rattle.walk.proofs.Head.{head-placed, head-lost, head-constant}
 use borrow.Author.Needs.{needs}
 use Rattle.walk.proofs.head_of.Statement.{statement}
 use Rattle.walk.proofs.head_of.Tie as tie

@@ -1,5 +1,5 @@
 -- `walk::is_leaf` meets its contract.
-use Rattle.walk.specs.Head.{leaf-applied, leaf-constant, leaf-variable}
+use Rattle.walk.proofs.Head.{leaf-applied, leaf-constant, leaf-variable}
 use Rattle.walk.proofs.is_leaf.Statement.{statement}
 use Rattle.walk.proofs.is_leaf.Tie as tie
 use Rattle.walk.proofs.is_leaf.Reads as reads

@@ -1,5 +1,5 @@
 -- `walk::then_record` meets its contract.
-use Rattle.walk.specs.Assign.{records-stops, records-goes}
+use Rattle.walk.proofs.Assigning.{records-stops, records-goes}
 use borrow.Author.Needs.{needs}
 use Rattle.walk.proofs.then_record.Statement.{statement}
 use Rattle.walk.proofs.then_record.Tie as tie
