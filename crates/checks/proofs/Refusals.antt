@@ -27,7 +27,7 @@ use Rattle.records.specs.declared.Pass.{Pass}
 use Rattle.records.specs.declared.Pass.the-variants.{Broken, Sound}
 use Rattle.records.specs.Rows.{BrokenAsks}
 use Rattle.records.specs.Noting.{foundOf, BrokenSays}
-use Rattle.rules.specs.Solve.{Refusal as Refuses, admitted, refused, refusal}
+use Rattle.rules.specs.Solve.{Refusal as Refuses, admitted, refused}
 use Rattle.laws.specs.Members.{broken-legal}
 use Rattle.checks.specs.declared.Asked.{Asked}
 use Rattle.checks.specs.declared.Asked.the-variants.{Solving, Record as Asking}

@@ -13,9 +13,8 @@ use Rattle.rules.specs.Answers.{records}
 use Rattle.rules.specs.Records.{broken}
 use Rattle.rules.specs.Typing.{ill-typed}
 use Rattle.rules.specs.Pattern.{no-pattern}
-use Rattle.typing.specs.Judging.{judged}
 use Rattle.typing.specs.Asks.{JudgeAsks}
-use Rattle.rules.specs.Solve.{Refusal as Refuses, admitted, refused, refusal}
+use Rattle.rules.specs.Solve.{Refusal as Refuses, admitted, refused}
 use Rattle.laws.specs.Members.{Legal}
 use Rattle.checks.specs.declared.Asked.{Asked}
 use Rattle.checks.specs.declared.Asked.the-variants.{Solving, Record as Asking}

@@ -10,7 +10,7 @@ use borrow.Author.Tests.{lt-ltb, le-ltb}
 use Rattle.rules.specs.Words.{NONE, tag, fieldA, fieldB, elements, VA, HA, CE, LA}
 use Rattle.rules.specs.Store.{Store, Out, goes, fails, spent, fail, _>>=_, put, push, pushVariables, pushOccurrence}
 use Rattle.laws.specs.Lists.{Cell, Listed, elements-none, elements-cell, elements-kept}
-use Rattle.invariants.specs.Floor.{Sub, All, Args, Ext}
+use Rattle.invariants.specs.Floor.{Sub, Args, Ext}
 use Rattle.invariants.specs.Grow.{all-map, tag-kept, a-kept, b-kept, sub-less, sub-kept}
 use Rattle.invariants.specs.Push.{put-length, put-kept, put-tag, put-a, put-b, ext-refl, ext-trans}
 use Rattle.invariants.specs.Copy.{Nobody}

@@ -11,35 +11,20 @@ use borrow.Author.Tests.{lt-ltb, le-ltb}
 use Rattle.rules.specs.Lists.{enough}
 use Rattle.rules.specs.Words.{tag, fieldA, fieldB, elements, arguments, LA, CA, VA}
 use Rattle.rules.specs.Store.{Store}
-use Rattle.rules.specs.Text.{Bytes, digits, decimal, printTerm, printed}
+use Rattle.rules.specs.Text.{Bytes, decimal, printTerm, printed}
+use Rattle.laws.specs.Digits.{decimal-small, decimal-more}
 use Rattle.invariants.specs.Forms.{form-6, form-7, form-8, form-9}
 use Rattle.invariants.specs.Floor.{Sub, All}
 use Rattle.invariants.specs.Grow.{all-map, sub-less}
 use Rattle.invariants.specs.Output.{plain, Line, Outputs, ATerm}
 
--- fuel above the number is as good as any
-digits-same : (f g x : ℕ) → x < f → x < g → digits f x ≡ digits g x
-unfolding digits
-digits-same zero g x h k = absurd (omega arith)
-digits-same (suc f) zero x h k = absurd (omega arith)
-digits-same (suc f) (suc g) x h k = go (decLt x 10) (digits-same f g (x / 10))
-  where
-    go : Dec (x < 10) → (x / 10 < f → x / 10 < g → digits f (x / 10) ≡ digits g (x / 10)) → digits (suc f) x ≡ digits (suc g) x
-    go (yes l) ih = rw (digits, lt-ltb _ _ l)
-    go (no l) ih = let le : 10 ≤ x = omega arith in rw (digits, le-ltb _ _ le, ih (omega arith) (omega arith))
-
-digits-unroll : (f g x : ℕ) → x < suc f → x < g → digits (suc f) x ≡ elim (ltb x 10) [ true ↦ (48 + x) ∷ [] | false ↦ digits g (x / 10) ++ ((48 + x % 10) ∷ []) ]
-unfolding digits
-digits-unroll f g x h k = go (decLt x 10)
-  where
-    go : Dec (x < 10) → digits (suc f) x ≡ elim (ltb x 10) [ true ↦ (48 + x) ∷ [] | false ↦ digits g (x / 10) ++ ((48 + x % 10) ∷ []) ]
-    go (yes l) = rw (digits, lt-ltb _ _ l)
-    go (no l) = let le : 10 ≤ x = omega arith in rw (digits, le-ltb _ _ le, digits-same f g (x / 10) (omega arith) (omega arith))
-
 -- the digits of a number below 2 to the 64th
 pub decimal-unrolls : (x : ℕ) → x < enough → decimal x ≡ elim (ltb x 10) [ true ↦ (48 + x) ∷ [] | false ↦ decimal (x / 10) ++ ((48 + x % 10) ∷ []) ]
-unfolding decimal
-decimal-unrolls x h = digits-unroll 18446744073709551615 enough x h h
+decimal-unrolls x h = go (decLt x 10)
+  where
+    go : Dec (x < 10) → decimal x ≡ elim (ltb x 10) [ true ↦ (48 + x) ∷ [] | false ↦ decimal (x / 10) ++ ((48 + x % 10) ∷ []) ]
+    go (yes l) = rw (lt-ltb _ _ l) (decimal-small x l)
+    go (no l) = let le : 10 ≤ x = omega arith in rw (le-ltb _ _ le) (decimal-more x le h)
 
 -- a list of which both writers print the same
 map-same : (f g : ℕ → Bytes) (xs : List ℕ) → All (λ x. f x ≡ g x) xs → map f xs ≡ map g xs

@@ -56,7 +56,7 @@ filled-below i k x j ws h lt =
     List·getD-append (take i ws) _ 0 j l ∙ getD-take i ws j 0 lt
 
 -- and x where it is filled
-filled-within : (i k x j d : ℕ) (ws : List ℕ) → i ≤ length ws → i ≤ j → j < i + k → getD (filled i k x ws) j d ≡ x
+pub filled-within : (i k x j d : ℕ) (ws : List ℕ) → i ≤ length ws → i ≤ j → j < i + k → getD (filled i k x ws) j d ≡ x
 unfolding filled
 filled-within i k x j d ws h lo hi =
     let e : j ≡ length (take i ws) + (j - i) = rw (length-take-le i ws h) (omega arith) in

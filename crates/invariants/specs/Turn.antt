@@ -8,14 +8,14 @@ use native.Mathlib.Omega.{arith}
 use native.Mathlib.Nat.{le-refl}
 use lib.ListN.{length, length-append}
 use lib.Dec.{eqb, leb}
-use borrow.Author.Tests.{eqb-true, leb-true}
+use borrow.Author.Tests.{leb-true}
 use Rattle.rules.specs.Lists.{both, either, enough}
 use Rattle.rules.specs.Words.{tag, fieldA, fieldB, LA, CA, VA, HA, has, elements, arguments, variables}
 use Rattle.rules.specs.Store.{Store, Out, goes, fail, _>>=_}
 use Rattle.rules.specs.Rewrite.{expand}
 use Rattle.rules.specs.Walk.{narrow, assign}
 use Rattle.rules.specs.Machine.{weight, Pair, Next, on, done, zip, join, agreeing, sameHole, solveOne, sameHead, meet, step, upcoming}
-use Rattle.laws.specs.Tests.{both-true, either-true}
+use Rattle.laws.specs.Tests.{both-true, either-true, tag-is}
 use Rattle.invariants.specs.Forms.{variables-few}
 use Rattle.invariants.specs.Floor.{Sub, All, limit, Rule, Fine, Ext, Grows, Rooted}
 use Rattle.invariants.specs.Outside.{fine-stopped}
@@ -30,10 +30,6 @@ use Rattle.invariants.specs.Running.{Sides, Running, Stepped, weights, a
 use Rattle.invariants.specs.Falls.{weight-lower, weights-append, zip-lower, lighter, dropped, written}
 
 -- a tag that is tested
-tagged : (ws : List ℕ) (r k : ℕ) → has ws r k ≡ true → tag ws r ≡ k
-unfolding has
-tagged ws r k e = eqb-true _ _ e
-
 -- the pair in hand, after step 1
 module _ (R C n l r : ℕ) (q : List Pair) (home : ℕ → ℕ) (s : Store) (h : Running R C n home s ((l, r) ∷ q)) where
   abbrev Meets : Out Next → Type 0
@@ -151,7 +147,7 @@ module _ (R C n l r : ℕ) (q : List Pair) (home : ℕ → ℕ) (s : Store) (h :
       solves : (x y : ℕ) → Sub (s .words) home 0 (s .used) x → Sub (s .words) home 0 (s .used) y → has (s .words) x HA ≡ true → Meets (assign R x y s >>= (λ p. goes (p .0) (done q)))
       solves x y i j e =
           finish (Rooted (s .used)) (assign R x y s)
-          (grows-weaken Nobody (λ v. v ≡ fieldA (s .words) x) (Rooted (s .used)) R n home s (assign R x y s) (λ v z. absurd z) (assign-grows R n x y home s fine (i .below) (tagged (s .words) x HA e) j))
+          (grows-weaken Nobody (λ v. v ≡ fieldA (s .words) x) (Rooted (s .used)) R n home s (assign R x y s) (λ v z. absurd z) (assign-grows R n x y home s fine (i .below) (tag-is (s .words) x HA e) j))
 
       go : (a b : Bool) → has (s .words) l HA ≡ a → has (s .words) r HA ≡ b → Meets (solveOne R l r s >>= (λ p. goes (p .0) (done q)))
       go true b e f = rw (e, solveOne) (solves l r left right e)
@@ -163,14 +159,14 @@ module _ (R C n l r : ℕ) (q : List Pair) (home : ℕ → ℕ) (s : Store) (h :
   meet-grows = go₂ (both (has (s .words) l LA) (has (s .words) r LA)) refl
     where
       go₄ : (x : Bool) → sameHead (s .words) HA l r ≡ x → Meets (elim x [ true ↦ sameHole R q l r s | false ↦ solveOne R l r s >>= (λ p. goes (p .0) (done q)) ])
-      go₄ true e = same-hole (tagged (s .words) l HA (both-true _ _ e .0))
+      go₄ true e = same-hole (tag-is (s .words) l HA (both-true _ _ e .0))
       go₄ false e = solve-one
 
       heads : (k : ℕ) → 7 ≤ k → sameHead (s .words) k l r ≡ true → (7 ≤ tag (s .words) l) × (7 ≤ tag (s .words) r)
       heads k lo e =
           let p = both-true _ _ e in
-          let a = tagged (s .words) l k (p .0) in
-          let b = tagged (s .words) r k (both-true _ _ (p .1) .0) in
+          let a = tag-is (s .words) l k (p .0) in
+          let b = tag-is (s .words) r k (both-true _ _ (p .1) .0) in
           (omega arith, omega arith)
 
       applied : (sameHead (s .words) CA l r ≡ true) ⊎ (sameHead (s .words) VA l r ≡ true) → (7 ≤ tag (s .words) l) × (7 ≤ tag (s .words) r)
@@ -186,7 +182,7 @@ module _ (R C n l r : ℕ) (q : List Pair) (home : ℕ → ℕ) (s : Store) (h :
       go₃ false e = go₄ (sameHead (s .words) HA l r) refl
 
       go₂ : (x : Bool) → both (has (s .words) l LA) (has (s .words) r LA) ≡ x → Meets (meet R C q l r s)
-      go₂ true e = let p = both-true _ _ e in rw (e, meet) (bodies (tagged (s .words) l LA (p .0)) (tagged (s .words) r LA (p .1)))
+      go₂ true e = let p = both-true _ _ e in rw (e, meet) (bodies (tag-is (s .words) l LA (p .0)) (tag-is (s .words) r LA (p .1)))
       go₂ false e = rw (e, meet) (go₃ (either (sameHead (s .words) CA l r) (sameHead (s .words) VA l r)) refl)
 
 -- the left sides of pairs are below R

@@ -1,7 +1,7 @@
 -- What reading and solving leave gives the program's lines.
 use Prim.Native.Nat.{ℕ, zero, suc, _*_, _<_, _≤_}
 use mathlib.Core.Path.{_≡_, refl, sym, ap, _∙_}
-use mathlib.Core.Bool.{Bool, true, false}
+use mathlib.Core.Bool.{true}
 use mathlib.Core.List.{List, [], _∷_, map}
 use native.Mathlib.Omega.{arith}
 use lib.ListN.{length, getD, take, replicate, length-replicate}
@@ -22,7 +22,6 @@ use Rattle.checks.specs.declared.Asked.the-variants.{Record as Asking}
 use Rattle.checks.specs.Refusing.{asks, isHole}
 use Rattle.solver.specs.Answering.{Answerable, answerable}
 use Rattle.solver.specs.Used.{read-used}
-use Rattle.lines.specs.declared.Begun.{Begun}
 use Rattle.lines.specs.Holes.{Notable, Holes}
 use Rattle.lines.specs.Lines.{Blank, solved, lineOf, Lines}
 

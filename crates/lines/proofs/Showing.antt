@@ -1,10 +1,10 @@
 -- A hole's line, from what solving left.
-use Prim.Native.Nat.{ℕ, zero, suc, _+_, _-_, _*_, _/_, _<_, _≤_}
+use Prim.Native.Nat.{ℕ, zero, suc, _+_, _-_, _*_, _<_, _≤_}
 use mathlib.Core.Path.{_≡_, refl, sym, ap, _∙_}
 use mathlib.Core.Bool.{true}
-use mathlib.Core.List.{List, [], _∷_, _++_, append-nil}
+use mathlib.Core.List.{List, [], append-nil}
 use native.Mathlib.Omega.{arith}
-use lib.ListN.{length, getD, take, drop, replicate, length-append, length-replicate, drop-of-length-le}
+use lib.ListN.{length, getD, replicate, length-append, length-replicate, drop-of-length-le}
 use borrow.Author.Tests.{le-leb, leb-true}
 use Rattle.rules.specs.declared.Reply.{Reply}
 use Rattle.rules.specs.Lists.{both, enough}
@@ -13,7 +13,7 @@ use Rattle.rules.specs.Answers.{reply, records}
 use Rattle.rules.specs.Store.{Store, goes, fails, spent}
 use Rattle.rules.specs.Solve.{unsaid, filled}
 use Rattle.rules.specs.Show.{Shown, answer, answering, shows}
-use Rattle.rules.specs.Text.{decimal, printed, replyLine, holeLine}
+use Rattle.rules.specs.Text.{replyLine, holeLine}
 use Rattle.laws.specs.Tests.{both-true}
 use Rattle.invariants.specs.Floor.{Term as ATerm}
 use Rattle.invariants.specs.Output.{Outputs}

@@ -1,7 +1,7 @@
 -- The positions at which two lists of arguments agree.
 use Prim.Native.Nat.{ℕ}
 use mathlib.Core.Path.{_≡_}
-use mathlib.Core.List.{List, map}
+use mathlib.Core.List.{List}
 use mathlib.Core.Bool.{true, false}
 use lib.ListN.{length}
 use lib.Dec.{eqb}
@@ -10,7 +10,7 @@ use Rattle.rules.specs.Words.{NONE, elements}
 use Rattle.rules.specs.Map.{sources}
 use Rattle.rules.specs.Machine.{agreeing}
 use Rattle.laws.specs.Lists.{Listed}
-use Rattle.places.specs.Maps.{leads, mapOf, Whole}
+use Rattle.places.specs.Maps.{mapOf, Whole}
 use Rattle.places.specs.Lists.{Counts, varsOf}
 
 -- what comparing asks: two lists that can be read, of the same length

@@ -5,7 +5,6 @@ use mathlib.Core.List.{List, [], _∷_}
 use mathlib.Core.Bool.{true, false}
 use native.Mathlib.Omega.{arith}
 use Rattle.places.specs.declared.Map.{Map}
-use Rattle.rules.specs.Lists.{from}
 use Rattle.rules.specs.Words.{NONE}
 use Rattle.rules.specs.Map.{toPositions, toVariables}
 use Rattle.invariants.specs.Floor.{All}

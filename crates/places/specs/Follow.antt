@@ -1,7 +1,7 @@
 -- The map that follows a hole's arguments.
 use Prim.Native.Nat.{ℕ}
 use mathlib.Core.Path.{_≡_}
-use mathlib.Core.List.{List, map}
+use mathlib.Core.List.{List}
 use mathlib.Core.Bool.{Bool, false}
 use lib.ListN.{length}
 use Rattle.places.specs.declared.Map.{Map}

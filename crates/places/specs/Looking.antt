@@ -1,5 +1,5 @@
 -- What looking a variable up in a map asks and says.
-use Prim.Native.Nat.{ℕ, _+_, _-_, _<_}
+use Prim.Native.Nat.{ℕ, _+_, _<_}
 use mathlib.Core.Path.{_≡_}
 use mathlib.Core.Bool.{Bool, false}
 use Rattle.rules.specs.declared.Found.{Found}
@@ -8,7 +8,6 @@ use Rattle.places.specs.declared.Map.{Map}
 use Rattle.places.specs.declared.Place.{Place}
 use Rattle.places.specs.declared.Place.the-variants.{At as To, Nowhere as Lost}
 use Rattle.rules.specs.Words.{NONE}
-use Rattle.rules.specs.Map.{lookup}
 use Rattle.invariants.specs.Places.{Low}
 use Rattle.places.specs.Maps.{mapOf, Whole}
 

@@ -18,12 +18,11 @@ use Rattle.rules.specs.Records.{broken}
 use Rattle.rules.specs.Typing.{checks, typed, ill-typed}
 use Rattle.rules.specs.Pattern.{offence, no-pattern}
 use Rattle.rules.specs.Solve.{Refusal, admitted, refused, refusal}
-use Rattle.laws.specs.Tests.{false-true, both-true, lowest-none}
+use Rattle.laws.specs.Tests.{false-true, both-true, lowest-none, both-yes}
 use Rattle.laws.specs.Sound.{Sound, broken-none, equation-fields}
 use Rattle.trees.specs.Tree.{Ty, Tree, AllL, at, HasTy}
 use Rattle.promise.specs.Table.{typeOf, treeOf, constants, holes}
 use Rattle.promise.specs.Demand.{TypedPatterns}
-use Rattle.promise.specs.Tests.{both-yes}
 use Rattle.promise.specs.Reading.{one, Reads, ReadsTy, ty-nil, same-refl, reads-later, type-later}
 use Rattle.promise.specs.Readable.{type-at}
 use Rattle.promise.specs.Typed.{least-clean, typed-reads}

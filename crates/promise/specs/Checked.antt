@@ -13,12 +13,11 @@ use Rattle.rules.specs.Lists.{either, all, any, each, among, distinct, least, e
 use Rattle.rules.specs.Words.{tag, fieldA, fieldB, NONE, AR, KO, HO, LA, CA, VA, HA, isTerm, elements, arguments, variables, bare}
 use Rattle.rules.specs.Typing.{finalType, domains, applied, fills, checkTerm, checks}
 use Rattle.rules.specs.Pattern.{pattern, offenceIn, offence}
-use Rattle.laws.specs.Tests.{both-true}
+use Rattle.laws.specs.Tests.{both-true, both-yes, either-left, has-yes, tag-is}
 use Rattle.laws.specs.Sound.{Sound, lambda-field, constant-head, hole-head, constant-list, variable-list}
 use Rattle.trees.specs.Tree.{Ty, base, arr, Tree, lam, con, var, hol, nil, AllL, Distinct, Kind, at, args, At, Vars, v-nil, v-cons, Sig, HasTy, t-lam, t-con, t-var, t-hol, t-nil, t-cons}
 use Rattle.trees.specs.Leads.{declared-once}
 use Rattle.promise.specs.Table.{spine, treeAt}
-use Rattle.promise.specs.Tests.{both-yes, either-left, has-yes, tag-is}
 use Rattle.promise.specs.Reading.{l-none, ReadsTy, ty-base, ty-arr, ReadsTys, ty-nil, ty-cons, HoleAt, same-refl, lower, type-later, types-later, listed-elements, listed-arguments}
 use Rattle.promise.specs.Rewriting.{form-lam, form-con, form-var, form-hol}
 use Rattle.promise.specs.Readable.{terms-read}

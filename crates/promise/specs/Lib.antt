@@ -2,7 +2,6 @@ pub mod Table  -- a table as types, trees, holes, equations and solutions, and t
 pub mod Notation  -- the printed notation of a tree
 pub mod Demand  -- DEMAND 3 AS STATEMENTS
 pub mod Examples  -- the fillings of the document's examples
-pub mod Tests  -- tests that pass
 pub mod Reading  -- a table read as types and trees, and what later records leave as it was
 pub mod Outcomes  -- a small logic of outcomes
 pub mod Writing  -- what writing records does to readings

@@ -5,9 +5,9 @@ use mathlib.Core.List.{List, [], _∷_, map}
 use native.Mathlib.Omega.{arith}
 use native.Mathlib.Nat.{le-refl}
 use lib.ListN.{getD}
-use borrow.Author.Tests.{eq-eqb, ne-eqb}
 use Rattle.rules.specs.Lists.{enough}
 use Rattle.rules.specs.Words.{tag, fieldA, fieldB, NONE, BT, AR, HO, CE, LA, CA, VA, HA, cells, elements, arguments, variables}
+use Rattle.laws.specs.Lists.{cells-none, cells-more}
 use Rattle.trees.specs.Tree.{Ty, base, arr, Tree, lam, con, var, hol, nil, cons}
 
 -- the list l, all of whose cells are below n, holds these records
@@ -140,19 +140,10 @@ hole-later s k d =
     }
 
 -- the elements of a list, as the rules read them
-cells-none : (k : ℕ) (ws : List ℕ) (l : ℕ) → l ≡ NONE → cells k ws l ≡ []
-unfolding cells
-cells-none zero ws l e = refl
-cells-none (suc k) ws l e = rw (eq-eqb _ _ e, cells)
-
-cells-more : (k : ℕ) (ws : List ℕ) (l : ℕ) → l < NONE → cells (suc k) ws l ≡ fieldA ws l ∷ cells k ws (fieldB ws l)
-unfolding cells
-cells-more k ws l h = let n : l ≡ NONE → ⊥ = omega arith in rw (ne-eqb _ _ n, cells)
-
 listed-cells : (k : ℕ) {ws : List ℕ} {n l : ℕ} {xs : List ℕ} → n ≤ k → Listed ws n l xs → cells k ws l ≡ xs
 listed-cells k {ws} {l = l} h (l-none e) = cells-none k ws l e
 listed-cells zero h (l-cell q z t a b d) = absurd (omega arith)
-listed-cells (suc k) {ws} {l = l} h (l-cell q z t a b d) = cells-more k ws l z ∙ ap₂ _∷_ a (ap (cells k ws) b ∙ listed-cells k (omega arith) d)
+listed-cells (suc k) {ws} {l = l} h (l-cell q z t a b d) = cells-more k ws l (omega arith) ∙ ap₂ _∷_ a (ap (cells k ws) b ∙ listed-cells k (omega arith) d)
 
 listed-top : (k : ℕ) {ws : List ℕ} {n l : ℕ} {xs : List ℕ} → NONE ≤ k → Listed ws n l xs → cells k ws l ≡ xs
 listed-top k h (l-none e) = listed-cells k {n = 0} (omega arith) (l-none e)

@@ -13,7 +13,7 @@ use Rattle.trees.specs.Tree.{Ty, Sig, nth}
 use Rattle.trees.specs.Moves.{Solutions, SolTyped}
 use Rattle.trees.specs.Filling.{nth-All}
 use Rattle.trees.specs.Scopes.{sol-scoped}
-use Rattle.promise.specs.Maps.{option, place, place-variables}
+use Rattle.promise.specs.Maps.{option, place-variables}
 use Rattle.promise.specs.Following.{follow-after}
 use Rattle.promise.specs.State.{Holds}
 use Rattle.promise.specs.Showing.{length-from, nth-from}

@@ -1,20 +1,20 @@
 -- Where the machine starts: an admitted table's equations read as typed pairs, and its store says just the table's holes.
 use Prim.Native.Nat.{ℕ, zero, suc, _+_, _*_, _-_, _<_, _≤_}
 use mathlib.Core.Path.{_≡_, refl, sym, ap, ap₂, _∙_}
-use mathlib.Core.List.{List, [], _∷_, _++_, map}
+use mathlib.Core.List.{List, [], _∷_, map}
 use mathlib.Core.Bool.{Bool, true, false}
 use mathlib.Core.Option.{none, some, Option·none-ne-some}
 use native.Mathlib.Omega.{arith}
 use native.Mathlib.Nat.{le-refl}
 use native.Mathlib.Decide.{decLt, ℕ-discrete}
-use lib.ListN.{length, getD, take, drop, replicate, length-append, length-take, length-drop, length-replicate, getD-replicate, List·getD-append}
-use lib.Seq.{getD-take}
+use lib.ListN.{length, getD}
 use lib.Dec.{eqb}
 use Rattle.rules.specs.Lists.{those, from, below}
 use Rattle.rules.specs.Words.{tag, fieldA, fieldB, NONE, HO, EQ, has}
 use Rattle.rules.specs.Answers.{records}
 use Rattle.rules.specs.Machine.{Pair, equations}
-use Rattle.rules.specs.Solve.{filled, start}
+use Rattle.rules.specs.Solve.{start}
+use Rattle.invariants.specs.Start.{filled-length, filled-below, filled-within, records-few, records-room}
 use Rattle.trees.specs.Tree.{Ty, AllL, at, Pairs, PairsTyped}
 use Rattle.trees.specs.Moves.{nothing}
 use Rattle.trees.specs.Free.{AllL-map}
@@ -59,14 +59,6 @@ hole-as : {ws : List ℕ} {n h : ℕ} {C B : List Ty} {b c : ℕ} → C ≡ B �
 hole-as e f d = rw (e, f) d
 
 module _ (ws ss : List ℕ) (n : ℕ) (a : Admitted ws ss n) where
-  small : records ws ≤ 4096
-  unfolding records
-  small = omega arith
-
-  enough-words : 4 * records ws ≤ length ws
-  unfolding records
-  enough-words = omega arith
-
   -- all equations of the table
   equations-typed : (es : List ℕ) → AllL (Equation ws n) es
       → (ps : Pairs) × PairsRead ws n (map (λ e. (fieldA ws e, fieldB ws e)) es) ps × PairsTyped (constants ws n) (holes ws n) ps
@@ -83,30 +75,20 @@ module _ (ws ss : List ℕ) (n : ℕ) (a : Admitted ws ss n) where
 
   -- the words where the machine starts
   start-same : Same n ws (start ws ss n .words)
-  unfolding start filled
-  start-same = record { word = kept }
-    where
-      kept : (i : ℕ) → i < 4 * n → getD (take (4 * n) ws ++ (replicate (4 * (records ws - n)) 0 ++ drop (4 * n + 4 * (records ws - n)) ws)) i 0 ≡ getD ws i 0
-      kept i h =
-          let k : i < length (take (4 * n) ws) = rw (length-take (4 * n) ws) (omega (arith, enough-words, a .room)) in
-          List·getD-append (take (4 * n) ws) _ 0 i k ∙ getD-take (4 * n) ws i 0 h
+  unfolding start
+  start-same = record { word = λ i h. filled-below (4 * n) (4 * (records ws - n)) 0 i ws (omega (arith, a .room, records-room ws)) h }
 
   start-length : length (start ws ss n .words) ≡ length ws
-  unfolding start filled
-  start-length =
-      let k = enough-words in
-      let l = a .room in
-      simp (length-append, length-take, length-replicate, length-drop) (omega arith)
+  unfolding start
+  start-length = filled-length (4 * n) (4 * (records ws - n)) 0 ws (omega (arith, a .room, records-room ws))
 
   start-answers : length (start ws ss n .solutions) ≡ length ss
-  unfolding start filled
-  start-answers = let l = a .answers in simp (length-append, length-take, length-replicate, length-drop) (omega arith)
+  unfolding start
+  start-answers = filled-length 0 (records ws) NONE ss (omega (arith, a .answers))
 
   start-none : (h : ℕ) → h < records ws → getD (start ws ss n .solutions) h NONE ≡ NONE
-  unfolding start filled
-  start-none h l =
-      let k : h < length (replicate (records ws) NONE) = rw (length-replicate (records ws) NONE) l in
-      List·getD-append (replicate (records ws) NONE) _ NONE h k ∙ getD-replicate (records ws) h NONE NONE l
+  unfolding start
+  start-none h l = filled-within 0 (records ws) NONE h NONE ss (omega arith) (omega arith) (omega arith)
 
   start-used : start ws ss n .used ≡ n
   unfolding start
@@ -116,8 +98,8 @@ module _ (ws ss : List ℕ) (n : ℕ) (a : Admitted ws ss n) where
   pub start-holds : Holds (records ws) (start ws ss n) (holes ws n) nothing
   start-holds = record {
     fits = record {
-      small = small;
-      table = omega (arith, enough-words, start-length);
+      small = records-few ws;
+      table = omega (arith, records-room ws, start-length);
       full = omega (arith, a .room, start-used);
     };
     room = omega (arith, a .answers, start-answers);

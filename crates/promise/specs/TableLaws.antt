@@ -13,10 +13,10 @@ use Rattle.rules.specs.Lists.{both, all, enough}
 use Rattle.rules.specs.Words.{tag, fieldA, fieldB, NONE, BT, AR, KO, HO, has, elements, bare}
 use Rattle.rules.specs.Store.{Store, solved, solution}
 use Rattle.rules.specs.Machine.{Pair}
+use Rattle.laws.specs.Tests.{both-yes, both-never}
 use Rattle.trees.specs.Tree.{Ty, base, arr, Tree, lam, con, var, cons, Sig, Pairs}
 use Rattle.trees.specs.Moves.{Solutions}
 use Rattle.promise.specs.Table.{typeAt, typeOf, spine, treeAt, treeOf, pairOf, constants, holes, solutionOf}
-use Rattle.promise.specs.Tests.{both-yes, both-no}
 use Rattle.promise.specs.Reading.{Bares, b-nil, b-cons, Node, one, many, Reads, r-lam, r-con, r-var, r-hol, r-nil, r-cons, ReadsTy, ty-base, ty-arr, ReadsTys, ty-nil, ty-cons, HoleAt, listed-elements, listed-arguments, listed-variables}
 use Rattle.promise.specs.Rewriting.{form-lam, form-con, form-var, form-hol}
 use Rattle.promise.specs.State.{Holds, reads-below}
@@ -81,7 +81,7 @@ constants-some ws n c h e = let t = both-yes (ltb c n) (has ws c KO) (lt-ltb c n
 pub constants-none : (ws : List ℕ) (n c : ℕ) → (c < n → tag ws c ≡ KO → ⊥) → constants ws n c ≡ none
 unfolding constants has
 constants-none ws n c k =
-    let t = both-no (ltb c n) (has ws c KO) (λ x y. k (borrow.Author.Tests.ltb-true c n x) (borrow.Author.Tests.eqb-true (tag ws c) KO y)) in
+    let t = both-never (ltb c n) (has ws c KO) (λ x y. k (borrow.Author.Tests.ltb-true c n x) (borrow.Author.Tests.eqb-true (tag ws c) KO y)) in
     rw (t, constants)
 
 base-number : {ws : List ℕ} {n r b : ℕ} → ReadsTy ws n r (base b) → fieldA ws r ≡ b
@@ -99,7 +99,7 @@ holes-some {ws} {n} {h} {C} {b} k d =
 pub holes-none : (ws : List ℕ) (n h : ℕ) → (h < n → tag ws h ≡ HO → ⊥) → holes ws n h ≡ none
 unfolding holes has
 holes-none ws n h k =
-    let t = both-no (ltb h n) (has ws h HO) (λ x y. k (borrow.Author.Tests.ltb-true h n x) (borrow.Author.Tests.eqb-true (tag ws h) HO y)) in
+    let t = both-never (ltb h n) (has ws h HO) (λ x y. k (borrow.Author.Tests.ltb-true h n x) (borrow.Author.Tests.eqb-true (tag ws h) HO y)) in
     rw (t, holes)
 
 pub holes-low : (ws : List ℕ) (n h : ℕ) (c : List Ty × ℕ) → holes ws n h ≡ some c → h < n
@@ -134,7 +134,7 @@ module _ {R : ℕ} {s : Store} {D : Sig} {σ : Solutions} (i : Holds R s D σ) w
           let x = both-yes (ltb h (s .used)) (solved s h) (lt-ltb h (s .used) (low h t e)) (ap not (ne-eqb _ _ n)) in
           rw (x, solutionOf) (ap some (sym (tree-reads fuel d)))
       go none e =
-          let x = both-no (ltb h (s .used)) (solved s h) (λ a b. unsolved (borrow.Author.Tests.ltb-true h (s .used) a) b) in
+          let x = both-never (ltb h (s .used)) (solved s h) (λ a b. unsolved (borrow.Author.Tests.ltb-true h (s .used) a) b) in
           rw (x, solutionOf) refl
         where
           unsolved : h < s .used → not (eqb (getD (s .solutions) h NONE) NONE) ≡ true → ⊥

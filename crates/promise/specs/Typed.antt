@@ -16,12 +16,11 @@ use Rattle.rules.specs.Typing.{finalType, domains, applied, fills, checkTerm, c
 use Rattle.rules.specs.Pattern.{pattern, offenceIn, offence}
 use Rattle.trees.specs.Tree.{Ty, base, arr, Tree, lam, con, var, hol, nil, cons, AllL, Distinct, at, args, At, Vars, v-nil, v-cons, Sig, HasTy, t-lam, t-con, t-var, t-hol, t-nil, t-cons}
 use Rattle.trees.specs.Free.{AllL-map}
-use Rattle.promise.specs.Tests.{tag-is}
 use Rattle.promise.specs.Reading.{l-none, Bares, b-nil, b-cons, one, many, Reads, r-lam, r-con, r-var, r-hol, r-nil, r-cons, ReadsTy, ty-base, ty-arr, ReadsTys, ty-nil, ty-cons, HoleAt, same-refl, lower, reads-later, type-later, types-later, listed-elements, listed-arguments, Listed}
 use Rattle.promise.specs.Rewriting.{form-lam, form-con, form-var, form-hol}
 use Rattle.promise.specs.Readable.{terms-read}
 use Rattle.promise.specs.Heads.{type-one, type-same, type-below, domains-base, domains-arrow, final-base, final-arrow, domains-none, each-left-nil, TermTag, is-lam, is-con, is-var, is-hol, term-tag, context-at, each-right-nil}
-use Rattle.laws.specs.Tests.{false-true, both-true, either-true}
+use Rattle.laws.specs.Tests.{false-true, both-true, either-true, tag-is}
 use Rattle.laws.specs.Sound.{Sound, lambda-field, constant-head, hole-head, constant-list, variable-list, hole-list}
 
 -- an argument of a list that checks

@@ -13,11 +13,11 @@ use lib.Dec.{eqb}
 use Rattle.rules.specs.Lists.{both, either, all, from, below}
 use Rattle.rules.specs.Words.{tag, fieldA, fieldB, has, isType}
 use Rattle.rules.specs.Records.{new-type}
-use Rattle.laws.specs.Tests.{false-true, both-true}
+use Rattle.laws.specs.Tests.{false-true, both-true, both-alone}
 use Rattle.table.specs.declared.Record.{Record}
 use Rattle.table.specs.Reading.{IsRecord}
 use Rattle.records.specs.Chains.{equals, latest, Chains, ChainAsks, ChainSays}
-use Rattle.records.proofs.Joined.{all-below, both-yes}
+use Rattle.records.proofs.Joined.{all-below}
 
 -- Two records of a chain
 
@@ -37,7 +37,7 @@ differs ws r j = not (both (has ws j (tag ws r)) (both (eqb (fieldA ws j) (field
 -- of one chain only the tag and a can differ
 differs-is : (ws : List ℕ) (r j : ℕ) (x : Record) → IsRecord ws r x → eqb (fieldB ws j) (fieldB ws r) ≡ true → differs ws r j ≡ not (equals ws j x)
 unfolding differs equals has
-differs-is ws r j x i e = rw (i .tag-is, i .a-is, e, both-yes (eqb (fieldA ws j) (fieldA ws r)))
+differs-is ws r j x i e = rw (i .tag-is, i .a-is, e, both-alone (eqb (fieldA ws j) (fieldA ws r)))
 
 module _ (ws : List ℕ) (r j : ℕ) where
   kind-differs : isType ws r ≡ true → isType ws j ≡ false → differs ws r j ≡ true

@@ -9,21 +9,20 @@ use lib.Dec.{eqb, ltb}
 use Rattle.rules.specs.Lists.{both, either, among}
 use Rattle.rules.specs.Words.{NONE, BT, KO, HO, CE, fieldA, has, isType, isTerm}
 use Rattle.rules.specs.Records.{listOf, fits}
-use Rattle.laws.specs.Tests.{both-true, both-no}
+use Rattle.laws.specs.Tests.{both-true, both-no, both-alone}
 use Rattle.laws.specs.Sound.{Sound}
 use Rattle.records.specs.declared.Field.{Field}
 use Rattle.records.specs.declared.Field.the-variants.{Nil, Any, Small, OfType, OfBase, OfConstant, OfHole, OfTerm, Types, Terms, Element, Rest}
 use Rattle.records.specs.Kinds.{field, refersTo}
 use Rattle.records.specs.Ranges.{TYPE-LOW, TYPE-HIGH, BASE-TYPE, CONSTANT, HOLE, TERM-LOW, TERM-HIGH, TYPES-LOW, TYPES-HIGH, TERMS-LOW, TERMS-HIGH, REFERRED}
 use Rattle.records.specs.Marks.{counts, kind, mark, Marked, fresh, one, reference-of, within, lowerMark, lies, holds, once, FieldSays}
-use Rattle.records.proofs.Joined.{both-yes}
 use Rattle.records.proofs.Ranges.{within-low, within-high, kind-type, kind-tag, kind-term, kind-types, kind-terms, kind-cells}
 use Rattle.records.proofs.Uses.{type-counts, tag-counts, term-counts, cell-counts, lower, mark-used, mark-unused, marked-referred}
 
 fresh-one : (u : List ℕ) (x : ℕ) (d : Bool) → fresh u (one d x) ≡ not (both d (among u x))
 unfolding fresh one both
 fresh-one u x false = refl
-fresh-one u x true = both-yes (not (among u x))
+fresh-one u x true = both-alone (not (among u x))
 
 module _ (ws ms u : List ℕ) (r : ℕ) (p : Marked ws ms u r) where
   -- x may be referred to: it counts not, or nothing refers to it
@@ -35,7 +34,7 @@ module _ (ws ms u : List ℕ) (r : ℕ) (p : Marked ws ms u r) where
     where
       go : (b : Bool) → both (counts ws x) (among u x) ≡ b → within low high (mark ws u x) ≡ both (within low high (kind ws x)) (free x)
       go true q = rw (mark-used ws u x q, q) (within-high low high _ (omega arith) ∙ sym (both-no (within low high (kind ws x))))
-      go false q = rw (mark-unused ws u x q, q) (sym (both-yes (within low high (kind ws x))))
+      go false q = rw (mark-unused ws u x q, q) (sym (both-alone (within low high (kind ws x))))
 
   -- a lower record of a kind that a range of marks tells
   lies-is : (low high x : ℕ) (ok : Bool) → 0 < low → high < REFERRED → (x < r → within low high (kind ws x) ≡ ok) → lies ms r low high x ≡ both (both (ltb x r) ok) (free x)
@@ -76,7 +75,7 @@ module _ (ws ms u : List ℕ) (r : ℕ) (p : Marked ws ms u r) where
 
     plain : (b : Bool) (x : ℕ) → b ≡ both b (fresh u (one (both false (counts ws x)) x))
     unfolding fresh one both
-    plain b x = sym (both-yes b)
+    plain b x = sym (both-alone b)
 
     holds-is : (f : Field) (x : ℕ) → holds ms r f x ≡ both (fits ws r (field f) x) (fresh u (reference-of ws f x))
     unfolding holds fits listOf field refersTo

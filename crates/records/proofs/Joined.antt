@@ -5,19 +5,14 @@ use mathlib.Core.Bool.{Bool, true, false}
 use mathlib.Core.List.{List, [], _∷_, _++_}
 use lib.Dec.{eqb}
 use Rattle.rules.specs.Lists.{both, either, all, any, among, below}
-use Rattle.laws.specs.Tests.{both-no}
+use Rattle.laws.specs.Tests.{both-no, both-alone}
 use Rattle.laws.specs.Noted.{below-more}
 
 -- Two tests, in any order
 
-pub both-yes : (b : Bool) → both b true ≡ b
-unfolding both
-both-yes true = refl
-both-yes false = refl
-
 pub both-turn : (a b : Bool) → both a b ≡ both b a
 unfolding both
-both-turn true b = sym (both-yes b)
+both-turn true b = sym (both-alone b)
 both-turn false b = sym (both-no b)
 
 both-last : (a b c : Bool) → both (both a b) c ≡ both a (both b c)
@@ -43,7 +38,7 @@ all-append ok (x ∷ xs) ys = rw (all-append ok xs ys) (sym (both-last (ok x) (a
 
 pub all-below : (ok : ℕ → Bool) (r : ℕ) → all ok (below (suc r)) ≡ both (ok r) (all ok (below r))
 unfolding all
-all-below ok r = rw (below-more r, all-append ok (below r) (r ∷ []), both-yes (ok r)) (both-turn (all ok (below r)) (ok r))
+all-below ok r = rw (below-more r, all-append ok (below r) (r ∷ []), both-alone (ok r)) (both-turn (all ok (below r)) (ok r))
 
 pub among-append : (xs ys : List ℕ) (v : ℕ) → among (xs ++ ys) v ≡ either (among xs v) (among ys v)
 unfolding among any

@@ -12,7 +12,7 @@ use lib.Dec.{eqb, leb}
 use Rattle.rules.specs.Lists.{both}
 use Rattle.rules.specs.Words.{BT, AR, KO, HO, CE, LA, CA, VA, HA, EQ, tag, fieldB, isType}
 use Rattle.rules.specs.Records.{never, shapes, shape, fits, shaped, listed, new-type, first-use, keeps}
-use Rattle.laws.specs.Tests.{false-true, both-true}
+use Rattle.laws.specs.Tests.{false-true, both-true, both-alone}
 use Rattle.laws.specs.Sound.{Sound, type-tag}
 use Rattle.table.specs.declared.Record.{Record}
 use Rattle.table.specs.Reading.{IsRecord}
@@ -21,7 +21,7 @@ use Rattle.records.specs.Kinds.{field, Above}
 use Rattle.records.specs.Marks.{Marked, used, within, CellAsks, CellSays}
 use Rattle.records.specs.Chains.{ChainAsks, ChainSays}
 use Rattle.records.specs.Rows.{RowAsks, RowSays, RecordAsks, RecordSays}
-use Rattle.records.proofs.Joined.{both-yes, both-outer}
+use Rattle.records.proofs.Joined.{both-outer}
 use Rattle.records.proofs.Ranges.{kind-other}
 use Rattle.records.proofs.Uses.{marked-next}
 use Rattle.records.proofs.Lengths.{listed-other}
@@ -157,7 +157,7 @@ module _ (ws ms la be : List ℕ) (r : ℕ) (p : RecordAsks ws ms la be r) where
           no-type = cell-no-type ws r (at-tag ∙ c)
 
           answer : y ≡ keeps ws r
-          answer = q .answer ∙ sym (keeps-is ws r b (s .answer) ∙ rw (t, new-other ws r no-type) (unfold both in both-yes (listed ws r)))
+          answer = q .answer ∙ sym (keeps-is ws r b (s .answer) ∙ rw (t, new-other ws r no-type) (unfold both in both-alone (listed ws r)))
 
     pub says-row : within BT AR k ≡ false → eqb k CE ≡ false → (ms₁ : List ℕ) (y : Bool) → length ms₁ ≡ length ms → RowSays ws ms₁ r y → RecordSays ws ms₁ la be r y
     says-row t n ms₁ y lm s =
@@ -172,7 +172,7 @@ module _ (ws ms la be : List ℕ) (r : ℕ) (p : RecordAsks ws ms la be r) where
         }
       where
         answer : (tag ws r ≡ CE → ⊥) → y ≡ keeps ws r
-        answer no-cell = sym (keeps-is ws r y (s .answer) ∙ rw (← listed-other ws r no-cell, new-other ws r (kind-is false t)) (unfold both in both-yes y))
+        answer no-cell = sym (keeps-is ws r y (s .answer) ∙ rw (← listed-other ws r no-cell, new-other ws r (kind-is false t)) (unfold both in both-alone y))
 
   -- no tag of the table
   module _ (x : Record) (w : IsRecord ws r x) (no-bt : x .tag ≡ BT → ⊥) (no-ar : x .tag ≡ AR → ⊥) (no-ko : x .tag ≡ KO → ⊥) (no-ho : x .tag ≡ HO → ⊥) (no-ce : x .tag ≡ CE → ⊥)

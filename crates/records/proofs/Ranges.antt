@@ -12,12 +12,11 @@ use lib.Dec.{eqb, ltb, leb}
 use Rattle.rules.specs.Lists.{both, either}
 use Rattle.rules.specs.Words.{CE, EQ, tag, fieldA, has, isType, isTerm}
 use Rattle.rules.specs.Records.{never, shapes, shape, fits, shaped, alike, listed, keeps}
-use Rattle.laws.specs.Tests.{false-true, both-true, both-no, either-true}
+use Rattle.laws.specs.Tests.{false-true, both-true, both-no, either-true, both-alone}
 use Rattle.laws.specs.Sound.{Sound, type-term}
 use Rattle.laws.specs.Lists.{cells-more}
 use Rattle.records.specs.Ranges.{TYPE-LOW, TYPE-HIGH, TERM-LOW, TERM-HIGH, MOST-CELLS, LIST-OF-TYPES, TYPES-LOW, TYPES-HIGH, TERMS-LOW, TERMS-HIGH}
 use Rattle.records.specs.Marks.{countedFrom, cellCount, kind, within}
-use Rattle.records.proofs.Joined.{both-yes}
 
 -- Ranges
 
@@ -171,7 +170,7 @@ module _ (ws : List ℕ) (r : ℕ) (g : Sound ws r) (x : ℕ) (h : x < r) where
 
     pub kind-cells : within TYPES-LOW TERMS-HIGH (kind ws x) ≡ has ws x CE
     unfolding countedFrom
-    kind-cells = kind-lists TYPES-LOW TERMS-HIGH (λ t. true) (omega arith) each ∙ both-yes (has ws x CE)
+    kind-cells = kind-lists TYPES-LOW TERMS-HIGH (λ t. true) (omega arith) each ∙ both-alone (has ws x CE)
       where
         each : (t : Bool) (k : ℕ) → 1 ≤ k → k ≤ MOST-CELLS → within TYPES-LOW TERMS-HIGH (countedFrom t + k) ≡ true
         each true k a b = within-in TYPES-LOW TERMS-HIGH _ (omega arith) (omega arith)

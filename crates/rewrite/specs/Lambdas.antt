@@ -1,5 +1,5 @@
 -- Lambdas written after a body, the innermost first.
-use Prim.Native.Nat.{ℕ, zero, suc, _-_}
+use Prim.Native.Nat.{ℕ, zero, suc}
 use mathlib.Core.Path.{_≡_}
 use mathlib.Core.List.{List}
 use Rattle.store.specs.declared.Walked.{Walked}

@@ -1,5 +1,5 @@
 -- A variable that has a place, renamed.
-use Prim.Native.Nat.{ℕ, _-_}
+use Prim.Native.Nat.{ℕ}
 use mathlib.Core.Path.{_≡_}
 use mathlib.Core.Bool.{false}
 use Rattle.rules.specs.declared.Found.the-variants.{At}

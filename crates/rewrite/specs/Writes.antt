@@ -9,8 +9,7 @@ use Rattle.rules.specs.Map.{Map}
 use Rattle.rules.specs.Rewrite.{Writer, writeAll}
 use Rattle.laws.specs.Lists.{size}
 use Rattle.invariants.specs.Rise.{reach}
-use Rattle.store.specs.Said.{shown, Since, over}
-use Rattle.rewrite.specs.LevelsLaws.{fuel}
+use Rattle.store.specs.Said.{shown, Since}
 
 -- with fuel enough, above the measure of T records over the floor F, a term is written as this
 abbrev pub Gives : (ℕ → Writer) → ℕ → ℕ → Map → ℕ → ℕ → Store → Out ℕ → Type 0

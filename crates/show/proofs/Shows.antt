@@ -15,7 +15,7 @@ use Rattle.rules.specs.Store.{Out, push, pushOccurrence, solved, solution}
 use Rattle.rules.specs.Map.{follow}
 use Rattle.rules.specs.Show.{showHole, expandHole, showTerm}
 use Rattle.invariants.specs.Rise.{reach}
-use Rattle.store.specs.Said.{store, shown, Does}
+use Rattle.store.specs.Said.{store, Does}
 use Rattle.places.specs.Maps.{mapOf, side}
 use Rattle.places.specs.Lists.{varsOf}
 use Rattle.places.specs.Follow.{Followed}

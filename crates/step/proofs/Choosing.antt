@@ -16,6 +16,7 @@ use Rattle.rules.specs.Words.{tag, fieldA, has, arguments, LA, CA, VA, HA}
 use Rattle.rules.specs.Store.{Store, Out, goes, fail, _>>=_}
 use Rattle.rules.specs.Walk.{assign}
 use Rattle.rules.specs.Machine.{Pair as Waiting, Next, on, done, zip, join, sameHole, sameHead, solveOne, meet}
+use Rattle.laws.specs.Tests.{both-yes, either-left, has-yes, has-no}
 use Rattle.store.specs.Said.{store}
 use Rattle.step.specs.Said.{finish}
 use Rattle.step.specs.Meets.{Tested, TwoLambdas, SameHeads, Terms, in-order, turned, MeetsAs}
@@ -40,18 +41,6 @@ at-most : (t : ℕ) → t ≤ 9 → (t ≡ 9 → ⊥) → t ≤ 8
 at-most t a b = omega arith
 
 -- tests, as values
-has-is : (ws : List ℕ) (r k : ℕ) → tag ws r ≡ k → has ws r k ≡ true
-unfolding has
-has-is ws r k e = eq-eqb _ _ e
-
-has-not : (ws : List ℕ) (r k : ℕ) → (tag ws r ≡ k → ⊥) → has ws r k ≡ false
-unfolding has
-has-not ws r k e = ne-eqb _ _ e
-
-either-left : (a b : Bool) → a ≡ true → either a b ≡ true
-unfolding either
-either-left a b e = rw e
-
 either-right : (a b : Bool) → a ≡ false → b ≡ true → either a b ≡ true
 unfolding either
 either-right a b e f = rw (e, f)
@@ -59,10 +48,6 @@ either-right a b e f = rw (e, f)
 either-none : (a b : Bool) → a ≡ false → b ≡ false → either a b ≡ false
 unfolding either
 either-none a b e f = rw (e, f)
-
-both-yes : (a b : Bool) → a ≡ true → b ≡ true → both a b ≡ true
-unfolding both
-both-yes a b e f = rw (e, f)
 
 both-left : (a b : Bool) → a ≡ false → both a b ≡ false
 unfolding both
@@ -74,20 +59,20 @@ both-right a b e f = rw (e, f)
 
 same-yes : (ws : List ℕ) (k l r : ℕ) → tag ws l ≡ k → tag ws r ≡ k → fieldA ws l ≡ fieldA ws r → sameHead ws k l r ≡ true
 unfolding sameHead
-same-yes ws k l r a b c = both-yes _ _ (has-is ws l k a) (both-yes _ _ (has-is ws r k b) (eq-eqb _ _ c))
+same-yes ws k l r a b c = both-yes _ _ (has-yes ws l k a) (both-yes _ _ (has-yes ws r k b) (eq-eqb _ _ c))
 
 same-not : (ws : List ℕ) (k l r : ℕ) → (tag ws l ≡ k → ⊥) → sameHead ws k l r ≡ false
 unfolding sameHead
-same-not ws k l r a = both-left _ _ (has-not ws l k a)
+same-not ws k l r a = both-left _ _ (has-no ws l k a)
 
 same-differ : (ws : List ℕ) (k l r : ℕ) → (tag ws l ≡ tag ws r → fieldA ws l ≡ fieldA ws r → ⊥) → sameHead ws k l r ≡ false
 unfolding sameHead
 same-differ ws k l r diff = go (ℕ-discrete (tag ws l) k) (ℕ-discrete (tag ws r) k)
   where
     go : Dec (tag ws l ≡ k) → Dec (tag ws r ≡ k) → both (has ws l k) (both (has ws r k) (eqb (fieldA ws l) (fieldA ws r))) ≡ false
-    go (no p) q = both-left _ _ (has-not ws l k p)
-    go (yes p) (no q) = both-right _ _ (has-is ws l k p) (both-left _ _ (has-not ws r k q))
-    go (yes p) (yes q) = both-right _ _ (has-is ws l k p) (both-right _ _ (has-is ws r k q) (ne-eqb _ _ (λ c. diff (p ∙ sym q) c)))
+    go (no p) q = both-left _ _ (has-no ws l k p)
+    go (yes p) (no q) = both-right _ _ (has-yes ws l k p) (both-left _ _ (has-no ws r k q))
+    go (yes p) (yes q) = both-right _ _ (has-yes ws l k p) (both-right _ _ (has-yes ws r k q) (ne-eqb _ _ (λ c. diff (p ∙ sym q) c)))
 
 -- the rule, by its tests
 module _ (R C : ℕ) (q : List Waiting) (ws ss : List ℕ) (u l r : ℕ) where
@@ -144,15 +129,15 @@ module _ (ws : List ℕ) (l r : ℕ) (h : Terms ws l r) (x y : Record) (ex : IsR
     pub meets-bodies : c ≡ true → MeetsAs ws l r (Bodies (x .a) (y .a))
     meets-bodies e =
         let t = tl .yes e in
-        record { run = λ R C q ss u. rw (ex .a-is, ey .a-is) (meet-bodies R C q ws ss u l r (has-is ws l 6 (left-is 6 (t .0))) (has-is ws r 6 (right-is 6 (t .1)))); fact = tt }
+        record { run = λ R C q ss u. rw (ex .a-is, ey .a-is) (meet-bodies R C q ws ss u l r (has-yes ws l 6 (left-is 6 (t .0))) (has-yes ws r 6 (right-is 6 (t .1)))); fact = tt }
 
     module _ (a : c ≡ false) (s : Bool) (sh : SameHeads x y s) where
       none : both (has ws l 6) (has ws r 6) ≡ false
       none = go (ℕ-discrete (tag ws l) LA)
         where
           go : Dec (tag ws l ≡ LA) → both (has ws l 6) (has ws r 6) ≡ false
-          go (no p) = both-left _ _ (has-not ws l 6 p)
-          go (yes p) = both-right _ _ (has-is ws l 6 p) (has-not ws r 6 (λ k. tl .no a (ex .tag-is ∙ p) (ey .tag-is ∙ k)))
+          go (no p) = both-left _ _ (has-no ws l 6 p)
+          go (yes p) = both-right _ _ (has-yes ws l 6 p) (has-no ws r 6 (λ k. tl .no a (ex .tag-is ∙ p) (ey .tag-is ∙ k)))
 
       -- of one kind, with equal heads
       alike : s ≡ true → (tag ws r ≡ tag ws l) × (fieldA ws l ≡ fieldA ws r)
@@ -193,13 +178,13 @@ module _ (ws : List ℕ) (l r : ℕ) (h : Terms ws l r) (x y : Record) (ex : IsR
         pub meets-left : x .tag ≡ HA → MeetsAs ws l r (Solve l r)
         meets-left t =
             let l₁ = left-is 9 t in
-            record { run = λ R C q ss u. solves R C q ss u ∙ ap (λ (o : Out ℕ). o >>= finish q) (solve-left R C q ws ss u l r (has-is ws l 9 l₁)); fact = (l₁, in-order refl refl) }
+            record { run = λ R C q ss u. solves R C q ss u ∙ ap (λ (o : Out ℕ). o >>= finish q) (solve-left R C q ws ss u l r (has-yes ws l 9 l₁)); fact = (l₁, in-order refl refl) }
 
         pub meets-right : (x .tag ≡ HA → ⊥) → y .tag ≡ HA → MeetsAs ws l r (Solve r l)
         meets-right t k =
             let r₁ = right-is 9 k in
             record {
-              run = λ R C q ss u. solves R C q ss u ∙ ap (λ (o : Out ℕ). o >>= finish q) (solve-right R C q ws ss u l r (has-not ws l 9 (left-not 9 t)) (has-is ws r 9 r₁));
+              run = λ R C q ss u. solves R C q ss u ∙ ap (λ (o : Out ℕ). o >>= finish q) (solve-right R C q ws ss u l r (has-no ws l 9 (left-not 9 t)) (has-yes ws r 9 r₁));
               fact = (r₁, turned refl refl);
             }
 
@@ -207,6 +192,6 @@ module _ (ws : List ℕ) (l r : ℕ) (h : Terms ws l r) (x y : Record) (ex : IsR
         meets-clash t k =
             record {
               run = λ R C q ss u.
-                  solves R C q ss u ∙ ap (λ (o : Out ℕ). o >>= finish q) (solve-none R C q ws ss u l r (has-not ws l 9 (left-not 9 t)) (has-not ws r 9 (right-not 9 k))) ∙ fail-on (store ws ss u) q;
+                  solves R C q ss u ∙ ap (λ (o : Out ℕ). o >>= finish q) (solve-none R C q ws ss u l r (has-no ws l 9 (left-not 9 t)) (has-no ws r 9 (right-not 9 k))) ∙ fail-on (store ws ss u) q;
               fact = tt;
             }

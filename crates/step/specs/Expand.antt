@@ -5,13 +5,10 @@ use mathlib.Core.List.{List}
 use mathlib.Core.Bool.{true, false}
 use lib.ListN.{length, getD}
 use Rattle.store.specs.declared.Walked.{Walked}
-use Rattle.rules.specs.Lists.{enough}
 use Rattle.rules.specs.Words.{NONE, HA, tag, fieldA, has}
-use Rattle.rules.specs.Store.{solution}
 use Rattle.rules.specs.Rewrite.{expand}
 use Rattle.invariants.specs.Floor.{Sub, Fine}
 use Rattle.promise.specs.SideKnown.{SideKnown}
-use Rattle.rewrite.specs.LevelsLaws.{fuel}
 use Rattle.store.specs.Said.{store, shown, Since}
 
 -- the record of the solution of a side's head, or NONE

@@ -8,7 +8,6 @@ use Rattle.rules.specs.declared.Failure.the-variants.{Clash as Clashes}
 use Rattle.table.specs.declared.Record.{Record}
 use Rattle.step.specs.declared.Meeting.{Meeting}
 use Rattle.step.specs.declared.Meeting.the-variants.{Bodies, Arguments, SameHole, Solve, Clash}
-use Rattle.rules.specs.Lists.{both}
 use Rattle.rules.specs.Words.{tag, fieldA, fieldB, elements, LA, HA}
 use Rattle.rules.specs.Store.{Store, Out, goes, fail, _>>=_}
 use Rattle.rules.specs.Walk.{assign}

@@ -1,5 +1,5 @@
 -- What a step's answers say, over the rules.
-use Prim.Native.Nat.{ℕ, _-_}
+use Prim.Native.Nat.{ℕ}
 use mathlib.Core.Path.{_≡_}
 use mathlib.Core.List.{List}
 use Rattle.store.specs.declared.Walked.{Walked}

@@ -7,7 +7,7 @@ use lib.ListN.{length}
 use Rattle.places.specs.declared.Map.{Map}
 use Rattle.queue.specs.declared.Ring.{Ring}
 use Rattle.step.specs.declared.Step.{Step}
-use Rattle.rules.specs.Words.{tag, fieldA, fieldB, elements, arguments, variables, HA}
+use Rattle.rules.specs.Words.{tag, fieldA, fieldB, elements, variables, HA}
 use Rattle.rules.specs.Map.{sources}
 use Rattle.rules.specs.Machine.{agreeing, sameHole}
 use Rattle.invariants.specs.Floor.{Sub, Fine}

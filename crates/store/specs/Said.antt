@@ -1,5 +1,5 @@
 -- What the code's answers say, over the rules.
-use Prim.Native.Nat.{ℕ, _-_, _≤_}
+use Prim.Native.Nat.{ℕ, _≤_}
 use mathlib.Core.Path.{_≡_}
 use mathlib.Core.List.{List}
 use Rattle.store.specs.declared.Walked.{Walked}

@@ -1,4 +1,4 @@
-pub mod Digits  -- decimal digits, whatever the fuel
+pub mod Digits  -- a number written digit by digit
 pub mod Printable  -- a term that can be printed, and its parts
 pub mod Printed  -- a term's text part by part, whatever the fuel
 pub mod Falling  -- what a call inside printing asks

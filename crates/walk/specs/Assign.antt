@@ -5,7 +5,6 @@ use mathlib.Core.List.{List}
 use Rattle.store.specs.declared.Walked.{Walked}
 use Rattle.rules.specs.Words.{tag, HA}
 use Rattle.rules.specs.Store.{Store, Out, goes, settle, _>>=_}
-use Rattle.rules.specs.Walk.{walk}
 use Rattle.invariants.specs.Floor.{Sub, Fine}
 use Rattle.store.specs.Said.{store, shown}
 use Rattle.promise.specs.TermKnown.{TermKnown}

@@ -4,7 +4,7 @@ use mathlib.Core.Path.{_≡_}
 use mathlib.Core.List.{List}
 use mathlib.Core.Bool.{false}
 use Rattle.places.specs.declared.Map.{Map}
-use Rattle.rules.specs.Words.{NONE, tag, variables, LA, HA}
+use Rattle.rules.specs.Words.{NONE, tag, LA, HA}
 use Rattle.laws.specs.Lists.{size}
 use Rattle.invariants.specs.Floor.{limit}
 use Rattle.invariants.specs.Places.{Low}

@@ -11,7 +11,6 @@ use Rattle.invariants.specs.Floor.{Sub, Fine}
 use Rattle.invariants.specs.Rise.{reach}
 use Rattle.store.specs.Said.{store, shown, Since}
 use Rattle.promise.specs.TermKnown.{TermKnown}
-use Rattle.walk.specs.Ready.{copying}
 
 -- what copying a solution t asks, for the occurrence r
 pub record Copying (R n : ℕ) (ws ss : List ℕ) (used r t : ℕ) : Type 0 where

@@ -2,7 +2,7 @@
 use Prim.Native.Nat.{ℕ, suc, _+_, _≤_}
 use mathlib.Core.List.{List}
 use native.Mathlib.Omega.{arith}
-use Rattle.rules.specs.Words.{arguments, variables}
+use Rattle.rules.specs.Words.{variables}
 use Rattle.rules.specs.Map.{toVariables}
 use Rattle.invariants.specs.Floor.{limit}
 use Rattle.invariants.specs.Places.{Low, variables-low}

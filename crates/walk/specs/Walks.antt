@@ -7,13 +7,12 @@ use lib.Dec.{eqb}
 use Rattle.store.specs.declared.Walked.{Walked}
 use Rattle.places.specs.declared.Map.{Map}
 use Rattle.rules.specs.Words.{NONE}
-use Rattle.rules.specs.Store.{_>>=_, solution}
 use Rattle.rules.specs.Map.{Map as Pairs}
 use Rattle.rules.specs.Rewrite.{Writer, keepHole, copy}
 use Rattle.rules.specs.Walk.{walkHole, walk}
 use Rattle.invariants.specs.Rise.{reach}
-use Rattle.store.specs.Said.{store, shown, Since, under}
-use Rattle.places.specs.Maps.{mapOf, side}
+use Rattle.store.specs.Said.{store, shown, Since}
+use Rattle.places.specs.Maps.{mapOf}
 use Rattle.rewrite.specs.Writes.{WritesTerm, WritesList}
 
 -- the walk for hole u, and for no hole a copy, with so much fuel
