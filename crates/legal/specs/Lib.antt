@@ -1,0 +1,2 @@
+pub mod Uses  -- what a record refers to
+pub mod Stay  -- records keep the rules while the words stay
