@@ -1,2 +1,4 @@
 pub mod Uses  -- what a record refers to
 pub mod Stay  -- records keep the rules while the words stay
+pub mod Right  -- one record by itself
+pub mod Cells  -- one list cell by itself
