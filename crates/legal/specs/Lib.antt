@@ -2,3 +2,5 @@ pub mod Uses  -- what a record refers to
 pub mod Stay  -- records keep the rules while the words stay
 pub mod Right  -- one record by itself
 pub mod Cells  -- one list cell by itself
+pub mod Reading  -- what lists hold, and how long they are
+pub mod Scope  -- terms in scope
