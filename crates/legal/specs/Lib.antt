@@ -5,3 +5,4 @@ pub mod Cells  -- one list cell by itself
 pub mod Reading  -- what lists hold, and how long they are
 pub mod Scope  -- terms in scope
 pub mod Sane  -- a store whose records keep the rules, and what is kept of it
+pub mod Added  -- terms and lists that are written

@@ -9,7 +9,7 @@ use native.Mathlib.Decide.{decLt}
 use lib.ListN.{length, getD, set, length-set}
 use lib.Seq.{getD-set-same}
 use Rattle.rules.specs.Words.{NONE, HO, tag, fieldA, fieldB, fieldC, isTerm}
-use Rattle.rules.specs.Records.{uses}
+use Rattle.rules.specs.Records.{uses, keeps}
 use Rattle.rules.specs.Store.{Store, put}
 use Rattle.laws.specs.Sound.{Sound}
 use Rattle.laws.specs.Members.{Legal}
@@ -131,7 +131,7 @@ module _ {R : ℕ} {s : Store} (t a b : ℕ) (i : Sane R s) (lt : s .used < R) w
       free : Right ws₁ (s .used) (Free ws₁ (s .used))
       free = record { shaped-so = r .shaped-so; listed-so = r .listed-so; no-type = r .no-type; once = r .once; used = all-map (λ x. (s₀ .used ≤ x) × Free ws₁ (s .used) x) (Free ws₁ (s .used)) (λ x p. p .1) (uses ws₁ (s .used)) (r .used) }
 
-      now : (j : ℕ) → Dec (j < s .used) → j < s .used + 1 → Rattle.rules.specs.Records.keeps ws₁ j ≡ true
+      now : (j : ℕ) → Dec (j < s .used) → j < s .used + 1 → keeps ws₁ j ≡ true
       now j (yes l) h = old-sound j l
       now j (no l) h = let z : j ≡ s .used = omega arith in rw z (right-keeps ws₁ (s .used) free)
 
