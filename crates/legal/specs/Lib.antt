@@ -6,3 +6,5 @@ pub mod Reading  -- what lists hold, and how long they are
 pub mod Scope  -- terms in scope
 pub mod Sane  -- a store whose records keep the rules, and what is kept of it
 pub mod Added  -- terms and lists that are written
+pub mod Ran  -- what a part of the machine comes to
+pub mod Lists  -- contexts, variables and occurrences that are written
