@@ -8,3 +8,5 @@ pub mod Sane  -- a store whose records keep the rules, and what is kept of it
 pub mod Added  -- terms and lists that are written
 pub mod Ran  -- what a part of the machine comes to
 pub mod Lists  -- contexts, variables and occurrences that are written
+pub mod Places  -- how high a map leads, exactly
+pub mod Narrow  -- settling and narrowing
