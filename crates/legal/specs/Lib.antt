@@ -10,3 +10,5 @@ pub mod Ran  -- what a part of the machine comes to
 pub mod Lists  -- contexts, variables and occurrences that are written
 pub mod Places  -- how high a map leads, exactly
 pub mod Narrow  -- settling and narrowing
+pub mod Parts  -- parts of terms, and argument lists written anew
+pub mod Rewriting  -- a term written anew

@@ -32,9 +32,13 @@ pub term-tag : (ws : List ℕ) (x : ℕ) → isTerm ws x ≡ true → (6 ≤ tag
 unfolding isTerm
 term-tag ws x e = let p = both-true _ _ e in (leb-true _ _ (p .0), leb-true _ _ (p .1))
 
-every-all : (P : ℕ → Type 0) (xs : List ℕ) → Every P xs → All P xs
+pub every-all : (P : ℕ → Type 0) (xs : List ℕ) → Every P xs → All P xs
 every-all P [] none = tt
 every-all P (x ∷ xs) (more p ps) = (p, every-all P xs ps)
+
+pub all-both : (P Q S : ℕ → Type 0) (xs : List ℕ) → ((y : ℕ) → P y → Q y → S y) → All P xs → All Q xs → All S xs
+all-both P Q S [] k p q = tt
+all-both P Q S (y ∷ ys) k p q = (k y (p .0) (q .0), all-both P Q S ys k (p .1) (q .1))
 
 module _ (ws : List ℕ) (n : ℕ) (t : Legal ws n) where
   g : Sound ws n
@@ -68,6 +72,10 @@ module _ (ws : List ℕ) (n : ℕ) (t : Legal ws n) where
       go : Dec (l ≡ NONE) → length (elements ws l) ≤ 16
       go (yes e) = rw (elements-none ws l e) (omega arith)
       go (no e) = let p = b e in let lt = p .0 in few-cells ws n g (t .few) (t .inside) l (omega arith) (p .1)
+
+  pub few-arguments : (r : ℕ) → r < n → 7 ≤ tag ws r → tag ws r ≤ 9 → length (arguments ws r) ≤ 16
+  unfolding arguments
+  few-arguments r h lo hi = few (isTerm ws) r (fieldB ws r) (omega arith) (arguments-begin r h lo hi)
 
   -- and no more than there are lower records
   cells-count : (ok : ℕ → Bool) → Follows ws n g ok → (k r l : ℕ) → r ≤ n → Begins ok ws r l → length (cells k ws l) ≤ r

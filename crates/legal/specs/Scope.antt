@@ -14,7 +14,7 @@ use Rattle.invariants.specs.Grow.{all-map}
 use Rattle.promise.specs.Tests.{tag-is}
 use Rattle.promise.specs.Reading.{Same}
 use Rattle.legal.specs.Stay.{tag-same, a-same}
-use Rattle.legal.specs.Reading.{arity, arguments-terms, arguments-same, variables-same, arity-same}
+use Rattle.legal.specs.Reading.{all-both, arity, arguments-terms, arguments-same, variables-same, arity-same}
 
 -- one level of a term
 pub record Level (Deeper : ℕ → ℕ → Type 0) (ws : List ℕ) (c b x : ℕ) : Type 0 where
@@ -101,10 +101,6 @@ module _ (ws ws₁ : List ℕ) (n : ℕ) (t : Legal ws n) (s : Same n ws ws₁) 
             rw (variables-same ws n t ws₁ s x lt (sym e ∙ z), a, arity-same ws n t ws₁ s (fieldA ws x) (omega arith) (tag-is ws (fieldA ws x) HO (p .1))) (h .count (sym e ∙ z));
         cap = λ z. h .cap (sym e ∙ z);
       }
-    where
-      all-both : (P Q S : ℕ → Type 0) (xs : List ℕ) → ((y : ℕ) → P y → Q y → S y) → All P xs → All Q xs → All S xs
-      all-both P Q S [] k p q = tt
-      all-both P Q S (y ∷ ys) k p q = (k y (p .0) (q .0), all-both P Q S ys k (p .1) (q .1))
 
   pub scopes-same : (c b x : ℕ) → x < n → isTerm ws x ≡ true → Scopes ws c b x → Scopes ws₁ c b x
   scopes-same c b x lt i h f = scoped-same f c b x lt i (h f)

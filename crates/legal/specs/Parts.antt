@@ -1,0 +1,139 @@
+-- What is asked of a term that is written anew and what is said of the result, and argument lists written term by term.
+use Prim.Native.Nat.{ℕ, suc, _+_, _-_, _<_, _≤_}
+use mathlib.Core.Path.{_≡_, refl, sym, _∙_}
+use mathlib.Core.List.{List, [], _∷_}
+use mathlib.Core.Bool.{true}
+use native.Mathlib.Omega.{arith}
+use native.Mathlib.Nat.{le-refl}
+use native.Mathlib.Decide.{ℕ-discrete}
+use lib.ListN.{length}
+use borrow.Author.Tests.{ne-eqb}
+use Rattle.rules.specs.declared.Found.{Found}
+use Rattle.rules.specs.declared.Found.the-variants.{At, Nowhere}
+use Rattle.rules.specs.Words.{NONE, KO, CE, LA, CA, VA, HA, tag, fieldA, fieldB, has, isTerm, form, hole, elements, arguments}
+use Rattle.rules.specs.Store.{Store, Out, push, _>>=_}
+use Rattle.rules.specs.Map.{Map, placeOf}
+use Rattle.rules.specs.Rewrite.{Writer, writeAll, writeTerm}
+use Rattle.laws.specs.Sound.{lambda-field, constant-head, follows-term}
+use Rattle.laws.specs.Members.{elements-every}
+use Rattle.invariants.specs.Floor.{All}
+use Rattle.invariants.specs.Grow.{all-map}
+use Rattle.invariants.specs.Forms.{form-6, form-7, form-8}
+use Rattle.promise.specs.Tests.{tag-is as tag-of}
+use Rattle.promise.specs.Reading.{Same}
+use Rattle.legal.specs.Stay.{tag-same, term-same, elements-same}
+use Rattle.legal.specs.Cells.{some-terms}
+use Rattle.legal.specs.Reading.{term-tag, every-all, all-both, arguments-begin, arguments-terms, few}
+use Rattle.legal.specs.Scope.{Level, Scopes, scope-level, level-scope, scopes-more, scopes-same}
+use Rattle.legal.specs.Sane.{Sane, legal, Kept, kept-refl, kept-trans, added, added-same, tag-is, a-is, b-is}
+use Rattle.legal.specs.Added.{Root, Chain, no-chain, root-kept, chain-since, lambda-added, constant-added, variable-added, cell-added}
+use Rattle.legal.specs.Ran.{Between, Ran, ran-bind, ran-goes, ran-fail, ran-push}
+use Rattle.legal.specs.Places.{Leads, place-below}
+
+-- a term of the store in scope under b variables
+pub record Part (s : Store) (b r : ℕ) : Type 0 where
+  pub below : r < s .used
+  pub term : isTerm (s .words) r ≡ true
+  pub cap : ℕ
+  pub scope : Scopes (s .words) cap b r
+
+pub part-kept : {R : ℕ} {s s₁ : Store} {b : ℕ} (x : ℕ) → Sane R s → Kept R s s₁ → Part s b x → Part s₁ b x
+part-kept {s = s} {s₁} {b} x i k p =
+    let l = p .below in
+    let g = k .grown in
+    record {
+      below = omega arith;
+      term = rw (term-same (s .words) (s₁ .words) (s .used) (legal i) (k .same) x l) (p .term);
+      cap = p .cap;
+      scope = scopes-same (s .words) (s₁ .words) (s .used) (legal i) (k .same) (p .cap) b x l (p .term) (p .scope);
+    }
+
+-- in later words, with a higher bound
+pub scope-on : {R : ℕ} {s : Store} (ws₁ : List ℕ) (c k b x : ℕ) → Sane R s → Same (s .used) (s .words) ws₁ → x < s .used → isTerm (s .words) x ≡ true → c ≤ k → Scopes (s .words) c b x → Scopes ws₁ k b x
+scope-on {s = s} ws₁ c k b x i on lt t le h = scopes-more ws₁ c k b x le (scopes-same (s .words) ws₁ (s .used) (legal i) on c b x lt t h)
+
+-- a term written under B variables: no hole in it stands under more than these and the records written
+pub record Wrote (R B : ℕ) (s s₁ : Store) (x : ℕ) : Type 0 where
+  pub kept : Kept R s s₁
+  pub root : Root s s₁ x
+  pub scope : Scopes (s₁ .words) (B + (s₁ .used - s .used)) B x
+
+-- a list of such terms
+pub record WroteList (R B k : ℕ) (s s₁ : Store) (l : ℕ) : Type 0 where
+  pub kept : Kept R s s₁
+  pub records : List ℕ
+  pub chain : Chain some-terms s s₁ l records
+  pub scopes : All (Scopes (s₁ .words) (B + (s₁ .used - s .used)) B) records
+  pub count : length records ≡ k
+
+pub chain-terms : {R : ℕ} {s₀ s : Store} {l : ℕ} (xs : List ℕ) → Sane R s → Chain some-terms s₀ s l xs → All (λ x. (x < s .used) × (isTerm (s .words) x ≡ true)) xs
+chain-terms {s = s} {l} xs i c =
+    let e = elements-every (s .words) (s .used) (i .sound) (isTerm (s .words)) (follows-term (s .words) (s .used) (i .sound)) (s .used) l (le-refl _) (c .begins) in
+    every-all (λ x. (x < s .used) × (isTerm (s .words) x ≡ true)) xs (rw (c .is) at e)
+
+module _ (R : ℕ) (Fits : Map → ℕ → Type 0) where
+  -- what a writer asks at a map from b variables to T, under d lambdas
+  pub record Source (m : Map) (T b d r : ℕ) (s : Store) : Type 0 where
+    pub sane : Sane R s
+    pub part : Part s (b + d) r
+    pub leads : Leads m T
+    pub fits : Fits m b
+
+  -- the same of a list of terms
+  pub record Sources (m : Map) (T b d : ℕ) (xs : List ℕ) (s : Store) : Type 0 where
+    pub sane : Sane R s
+    pub parts : All (Part s (b + d)) xs
+    pub short : length xs ≤ 16
+    pub leads : Leads m T
+    pub fits : Fits m b
+
+  -- a number of variables so low is below 4,096, whatever of the term is written yet
+  abbrev pub Small : ℕ → Store → Store → Type 0
+  Small B s s₁ = B + (s₁ .used - s .used) ≤ 4096
+
+  -- a writer that keeps the store sane
+  abbrev pub Writes : Writer → Type 0
+  Writes w = (m : Map) (d r : ℕ) (s : Store) → Ran R s (λ s₁ x. (T b : ℕ) → Source m T b d r s → Small (T + d) s s₁ → Wrote R (T + d) s s₁ x) (w m d r s)
+
+  -- the same at hole occurrences
+  abbrev pub WritesHole : Writer → Type 0
+  WritesHole w = (m : Map) (d r : ℕ) (s : Store) → Ran R s (λ s₁ x. (T b : ℕ) → Source m T b d r s → tag (s .words) r ≡ HA → Small (T + d) s s₁ → Wrote R (T + d) s s₁ x) (w m d r s)
+
+  module _ (w : Writer) (writes : Writes w) (m : Map) (d : ℕ) where
+    all-wrote : (T b x : ℕ) (xs : List ℕ) (s s₁ : Store) (y : ℕ) (s₂ : Store) (l : ℕ) → s .used ≤ s₁ .used → s₁ .used ≤ s₂ .used → s₂ .used < R
+        → ((T b : ℕ) → Source m T b d x s → Small (T + d) s s₁ → Wrote R (T + d) s s₁ y)
+        → ((T b : ℕ) → Sources m T b d xs s₁ → Small (T + d) s₁ s₂ → WroteList R (T + d) (length xs) s₁ s₂ l)
+        → Sources m T b d (x ∷ xs) s → Small (T + d) s (added s₂ CE y l) → WroteList R (T + d) (suc (length xs)) s (added s₂ CE y l) (s₂ .used)
+    all-wrote T b x xs s s₁ y s₂ l g₁ g₂ lt p q i c =
+        let w₁ = p T b (record { sane = i .sane; part = i .parts .0; leads = i .leads; fits = i .fits }) (omega arith) in
+        let i₁ = w₁ .kept .sane in
+        let sh = i .short in
+        let w₂ = q T b (record { sane = i₁; parts = all-map (Part s (b + d)) (Part s₁ (b + d)) (λ z j. part-kept z (i .sane) (w₁ .kept) j) xs (i .parts .1); short = omega arith; leads = i .leads; fits = i .fits }) (omega arith) in
+        let k₂ = kept-trans (w₁ .kept) (w₂ .kept) in
+        let i₂ = k₂ .sane in
+        let r₂ = root-kept y i₁ (w₂ .kept) (w₁ .root) in
+        let n = w₂ .count in
+        let z = cell-added k₂ lt some-terms y l (w₂ .records) (r₂ .term) (r₂ .below) (chain-since g₁ (w₂ .chain)) (λ t. r₂) (omega arith) in
+        let on = added-same CE y l i₂ lt in
+        let B = T + d in
+        let c₃ = B + (s₂ .used + 1 - s .used) in
+        record {
+          kept = z .0;
+          records = y ∷ w₂ .records;
+          chain = z .1;
+          scopes = (
+            scope-on (added s₂ CE y l .words) (B + (s₁ .used - s .used)) c₃ B y i₂ on (r₂ .below) (r₂ .term) (omega arith)
+            (scopes-same (s₁ .words) (s₂ .words) (s₁ .used) (legal i₁) (w₂ .kept .same) (B + (s₁ .used - s .used)) B y (w₁ .root .below) (w₁ .root .term) (w₁ .scope)),
+            all-both (λ x. (x < s₂ .used) × (isTerm (s₂ .words) x ≡ true)) (Scopes (s₂ .words) (B + (s₂ .used - s₁ .used)) B) (Scopes (added s₂ CE y l .words) c₃ B) (w₂ .records)
+            (λ x t h. scope-on (added s₂ CE y l .words) (B + (s₂ .used - s₁ .used)) c₃ B x i₂ on (t .0) (t .1) (omega arith) h) (chain-terms (w₂ .records) i₂ (w₂ .chain)) (w₂ .scopes),
+          );
+          count = omega arith;
+        }
+
+    pub all-ran : (xs : List ℕ) (s : Store) → Ran R s (λ s₁ l. (T b : ℕ) → Sources m T b d xs s → Small (T + d) s s₁ → WroteList R (T + d) (length xs) s s₁ l) (writeAll w R m d xs s)
+    unfolding writeAll
+    all-ran [] s = ran-goes R (λ T b i c. record { kept = kept-refl (i .sane); records = []; chain = no-chain some-terms s s; scopes = tt; count = refl })
+    all-ran (x ∷ xs) s =
+        ran-bind R _ (writes m d x s) λ s₁ y b₁ p.
+        ran-bind R _ (all-ran xs s₁) λ s₂ l b₂ q.
+        ran-push R CE y l s₂ λ lt T b i c. all-wrote T b x xs s s₁ y s₂ l (b₁ .grown) (b₂ .grown) lt p q i c
