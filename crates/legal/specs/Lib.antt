@@ -12,3 +12,5 @@ pub mod Places  -- how high a map leads, exactly
 pub mod Narrow  -- settling and narrowing
 pub mod Parts  -- parts of terms, and argument lists written anew
 pub mod Rewriting  -- a term written anew
+pub mod Copy  -- copying and expanding
+pub mod Walk  -- the walk, and solving a hole
