@@ -14,3 +14,5 @@ pub mod Parts  -- parts of terms, and argument lists written anew
 pub mod Rewriting  -- a term written anew
 pub mod Copy  -- copying and expanding
 pub mod Walk  -- the walk, and solving a hole
+pub mod Turn  -- each step, and the run
+pub mod Typed  -- typed trees are in scope
