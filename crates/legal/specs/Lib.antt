@@ -16,3 +16,5 @@ pub mod Copy  -- copying and expanding
 pub mod Walk  -- the walk, and solving a hole
 pub mod Turn  -- each step, and the run
 pub mod Typed  -- typed trees are in scope
+pub mod Start  -- where the machine starts
+pub mod Solved  -- AFTER SOLVING THE TABLE IS LEGAL AGAIN
