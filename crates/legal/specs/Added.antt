@@ -1,22 +1,22 @@
 -- Terms and lists that are written, record by record: each record keeps the rules, and its root is in use by none.
-use Prim.Native.Nat.{ℕ, suc, _+_, _*_, _<_, _≤_}
-use mathlib.Core.Path.{_≡_, refl, sym, ap, _∙_}
+use Prim.Native.Nat.{ℕ, _+_, _<_, _≤_}
+use mathlib.Core.Path.{_≡_, refl, _∙_}
 use mathlib.Core.List.{List, [], _∷_}
-use mathlib.Core.Bool.{Bool, true}
+use mathlib.Core.Bool.{true}
 use native.Mathlib.Omega.{arith}
 use native.Mathlib.Nat.{le-refl}
-use native.Mathlib.Decide.{decLt, ℕ-discrete}
+use native.Mathlib.Decide.{decLt}
 use lib.ListN.{length}
-use Rattle.rules.specs.Words.{NONE, BT, KO, HO, CE, LA, CA, VA, HA, tag, fieldA, fieldB, isType, isTerm, elements}
+use Rattle.rules.specs.Words.{NONE, BT, KO, HO, CE, LA, CA, VA, HA, tag, fieldB, isTerm, elements}
 use Rattle.rules.specs.Store.{Store}
 use Rattle.laws.specs.Lists.{Cell, Listed, elements-none, elements-cell}
 use Rattle.laws.specs.Members.{Begins, cell}
 use Rattle.invariants.specs.Push.{put-length}
-use Rattle.legal.specs.Stay.{tag-same, a-same, term-same, type-same, begins-same, elements-same}
-use Rattle.legal.specs.Right.{Free, Right, lambda-right, constant-right, variable-right, occurrence-right, hole-right}
+use Rattle.legal.specs.Stay.{tag-same, term-same, type-same, begins-same, elements-same}
+use Rattle.legal.specs.Right.{Free, lambda-right, constant-right, variable-right, occurrence-right, hole-right}
 use Rattle.legal.specs.Cells.{Kind, some-types, some-terms, of, cell-right}
 use Rattle.legal.specs.Reading.{term-yes}
-use Rattle.legal.specs.Sane.{Sane, legal, Kept, top-free, free-kept, added, added-same, tag-is, a-is, b-is, c-is, old-sound, old-legal, free-added, append}
+use Rattle.legal.specs.Sane.{Sane, legal, Kept, top-free, free-kept, added, added-same, tag-is, a-is, b-is, c-is, old-sound, free-added, append}
 
 -- a term written since s₀ that no record refers to
 pub record Root (s₀ s : Store) (x : ℕ) : Type 0 where

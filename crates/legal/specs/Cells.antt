@@ -1,8 +1,8 @@
 -- One list cell by itself: a list is of types or of terms, and a cell before it whose element is of its kind keeps the rules.
 use Prim.Native.Nat.{ℕ, _<_, _≤_}
 use mathlib.Core.Path.{_≡_, refl}
-use mathlib.Core.List.{List, []}
-use mathlib.Core.Bool.{Bool, true, false}
+use mathlib.Core.List.{List}
+use mathlib.Core.Bool.{Bool, true}
 use native.Mathlib.Omega.{arith}
 use native.Mathlib.Decide.{ℕ-discrete}
 use lib.ListN.{length}
@@ -13,7 +13,6 @@ use Rattle.rules.specs.Words.{NONE, CE, tag, fieldA, fieldB, fieldC, has, isTyp
 use Rattle.rules.specs.Records.{element as an-element, rest as a-rest, shapes, fits, alike, listed, reference}
 use Rattle.laws.specs.Tests.{both-true}
 use Rattle.laws.specs.Members.{Begins}
-use Rattle.invariants.specs.Floor.{All}
 use Rattle.promise.specs.Tests.{both-yes, either-left, has-yes}
 use Rattle.legal.specs.Uses.{first-all}
 use Rattle.legal.specs.Stay.{either-right, cells-listed}

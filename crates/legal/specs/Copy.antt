@@ -1,16 +1,15 @@
 -- Copying and expanding in a sane store: a side is a term in scope, and stays one.
 use Prim.Native.Nat.{ℕ, zero, suc, _+_, _-_, _<_, _≤_}
 use mathlib.Core.Path.{_≡_, refl, sym, _∙_}
-use mathlib.Core.List.{List}
 use mathlib.Core.Bool.{Bool, true, false}
 use native.Mathlib.Omega.{arith}
 use lib.ListN.{length, getD, length-map}
 use borrow.Author.Tests.{not-true, eqb-false}
 use Rattle.rules.specs.Lists.{both, enough}
 use Rattle.rules.specs.Words.{NONE, HO, HA, tag, fieldA, has, isTerm, variables}
-use Rattle.rules.specs.Store.{Store, solved, solution, pushOccurrence}
-use Rattle.rules.specs.Map.{Map, targets, toVariables, follow}
-use Rattle.rules.specs.Rewrite.{Writer, keepHole, copy, expand}
+use Rattle.rules.specs.Store.{Store, solved, solution}
+use Rattle.rules.specs.Map.{targets, toVariables, follow}
+use Rattle.rules.specs.Rewrite.{keepHole, copy, expand}
 use Rattle.laws.specs.Tests.{both-true}
 use Rattle.laws.specs.Sound.{hole-head}
 use Rattle.invariants.specs.Floor.{All}
@@ -19,7 +18,7 @@ use Rattle.promise.specs.Tests.{tag-is as tag-of}
 use Rattle.promise.specs.Outcomes.{unsaid}
 use Rattle.legal.specs.Stay.{term-same}
 use Rattle.legal.specs.Reading.{arity, arity-same, arity-few}
-use Rattle.legal.specs.Scope.{Scopes, scope-level, scopes-more, scopes-same}
+use Rattle.legal.specs.Scope.{Scopes, scope-level, scopes-more}
 use Rattle.legal.specs.Sane.{Solution, Sane, legal, Kept, kept-refl, kept-trans}
 use Rattle.legal.specs.Narrow.{occurrence-scope}
 use Rattle.legal.specs.Lists.{Occurrence, occurrence-ran}

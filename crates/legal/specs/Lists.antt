@@ -1,15 +1,15 @@
 -- Contexts, lists of bare variables and hole occurrences, as they are written.
-use Prim.Native.Nat.{ℕ, suc, _+_, _*_, _<_, _≤_}
-use mathlib.Core.Path.{_≡_, refl, sym, ap, ap₂, _∙_}
+use Prim.Native.Nat.{ℕ, _<_, _≤_}
+use mathlib.Core.Path.{_≡_, refl, ap, ap₂, _∙_}
 use mathlib.Core.List.{List, [], _∷_, map}
 use mathlib.Core.Bool.{true}
 use native.Mathlib.Omega.{arith}
 use native.Mathlib.Nat.{le-refl}
 use lib.ListN.{length, length-map}
-use Rattle.rules.specs.Words.{NONE, HO, CE, VA, HA, tag, fieldA, fieldB, isType, isTerm, elements, arguments, variables}
+use Rattle.rules.specs.Words.{NONE, HO, CE, VA, HA, tag, fieldA, isType, isTerm, arguments, variables}
 use Rattle.rules.specs.Store.{Store, push, pushCells, pushVariables, pushOccurrence}
 use Rattle.laws.specs.Sound.{type-term, follows-term}
-use Rattle.laws.specs.Members.{Every, every-so, map-same, elements-every}
+use Rattle.laws.specs.Members.{every-so, map-same, elements-every}
 use Rattle.invariants.specs.Floor.{All}
 use Rattle.promise.specs.Reading.{Same}
 use Rattle.legal.specs.Stay.{tag-same, a-same, type-same, elements-same}

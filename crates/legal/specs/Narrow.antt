@@ -1,6 +1,6 @@
 -- Settling a hole and narrowing one, in a sane store.
-use Prim.Native.Nat.{ℕ, zero, suc, _+_, _*_, _<_, _≤_}
-use mathlib.Core.Path.{_≡_, refl, sym, ap, _∙_}
+use Prim.Native.Nat.{ℕ, zero, suc, _<_, _≤_}
+use mathlib.Core.Path.{_≡_, refl, sym, _∙_}
 use mathlib.Core.List.{List, [], _∷_, map}
 use mathlib.Core.Bool.{true}
 use native.Mathlib.Omega.{arith}
@@ -8,20 +8,20 @@ use native.Mathlib.Nat.{le-refl}
 use native.Mathlib.Decide.{ℕ-discrete}
 use lib.ListN.{length, getD, set, length-set, length-map}
 use lib.Seq.{getD-set-other, getD-set-same}
-use Rattle.rules.specs.Words.{NONE, BT, HO, HA, tag, fieldA, fieldB, isType, isTerm, elements, variables}
-use Rattle.rules.specs.Store.{Store, push, pushCells, pushOccurrence, settle, goes}
+use Rattle.rules.specs.Words.{NONE, BT, HO, tag, fieldA, fieldB, isType, isTerm, elements}
+use Rattle.rules.specs.Store.{Store, push, settle}
 use Rattle.rules.specs.Walk.{narrow}
 use Rattle.laws.specs.Sound.{hole-base}
 use Rattle.invariants.specs.Floor.{All}
 use Rattle.invariants.specs.Grow.{all-map}
 use Rattle.promise.specs.Tests.{tag-is as tag-of}
-use Rattle.legal.specs.Stay.{tag-same, b-same, elements-same}
+use Rattle.legal.specs.Stay.{tag-same, elements-same}
 use Rattle.legal.specs.Cells.{some-types}
 use Rattle.legal.specs.Reading.{arity, arity-same, arity-few, context-types}
 use Rattle.legal.specs.Scope.{Scopes, level-scope}
-use Rattle.legal.specs.Sane.{Solution, Sane, legal, Kept, kept-refl, kept-trans, added, added-same, tag-is, a-is}
-use Rattle.legal.specs.Added.{Root, Chain, hole-added}
-use Rattle.legal.specs.Ran.{Between, between-refl, Ran, ran-bind, ran-map, ran-goes, ran-push}
+use Rattle.legal.specs.Sane.{Solution, Sane, legal, Kept, kept-trans, added, added-same, tag-is, a-is}
+use Rattle.legal.specs.Added.{Chain, hole-added}
+use Rattle.legal.specs.Ran.{Ran, ran-bind, ran-push}
 use Rattle.legal.specs.Lists.{cells-ran, Occurrence, occurrence-ran}
 use Rattle.promise.specs.Outcomes.{ended}
 

@@ -1,34 +1,28 @@
 -- What is asked of a term that is written anew and what is said of the result, and argument lists written term by term.
 use Prim.Native.Nat.{ℕ, suc, _+_, _-_, _<_, _≤_}
-use mathlib.Core.Path.{_≡_, refl, sym, _∙_}
+use mathlib.Core.Path.{_≡_, refl}
 use mathlib.Core.List.{List, [], _∷_}
 use mathlib.Core.Bool.{true}
 use native.Mathlib.Omega.{arith}
 use native.Mathlib.Nat.{le-refl}
-use native.Mathlib.Decide.{ℕ-discrete}
 use lib.ListN.{length}
-use borrow.Author.Tests.{ne-eqb}
-use Rattle.rules.specs.declared.Found.{Found}
-use Rattle.rules.specs.declared.Found.the-variants.{At, Nowhere}
-use Rattle.rules.specs.Words.{NONE, KO, CE, LA, CA, VA, HA, tag, fieldA, fieldB, has, isTerm, form, hole, elements, arguments}
-use Rattle.rules.specs.Store.{Store, Out, push, _>>=_}
-use Rattle.rules.specs.Map.{Map, placeOf}
-use Rattle.rules.specs.Rewrite.{Writer, writeAll, writeTerm}
-use Rattle.laws.specs.Sound.{lambda-field, constant-head, follows-term}
+use Rattle.rules.specs.Words.{CE, HA, tag, isTerm}
+use Rattle.rules.specs.Store.{Store}
+use Rattle.rules.specs.Map.{Map}
+use Rattle.rules.specs.Rewrite.{Writer, writeAll}
+use Rattle.laws.specs.Sound.{follows-term}
 use Rattle.laws.specs.Members.{elements-every}
 use Rattle.invariants.specs.Floor.{All}
 use Rattle.invariants.specs.Grow.{all-map}
-use Rattle.invariants.specs.Forms.{form-6, form-7, form-8}
-use Rattle.promise.specs.Tests.{tag-is as tag-of}
 use Rattle.promise.specs.Reading.{Same}
-use Rattle.legal.specs.Stay.{tag-same, term-same, elements-same}
+use Rattle.legal.specs.Stay.{term-same}
 use Rattle.legal.specs.Cells.{some-terms}
-use Rattle.legal.specs.Reading.{term-tag, every-all, all-both, arguments-begin, arguments-terms, few}
-use Rattle.legal.specs.Scope.{Level, Scopes, scope-level, level-scope, scopes-more, scopes-same}
-use Rattle.legal.specs.Sane.{Sane, legal, Kept, kept-refl, kept-trans, added, added-same, tag-is, a-is, b-is}
-use Rattle.legal.specs.Added.{Root, Chain, no-chain, root-kept, chain-since, lambda-added, constant-added, variable-added, cell-added}
-use Rattle.legal.specs.Ran.{Between, Ran, ran-bind, ran-goes, ran-fail, ran-push}
-use Rattle.legal.specs.Places.{Leads, place-below}
+use Rattle.legal.specs.Reading.{every-all, all-both}
+use Rattle.legal.specs.Scope.{Scopes, scopes-more, scopes-same}
+use Rattle.legal.specs.Sane.{Sane, legal, Kept, kept-refl, kept-trans, added, added-same}
+use Rattle.legal.specs.Added.{Root, Chain, no-chain, root-kept, chain-since, cell-added}
+use Rattle.legal.specs.Ran.{Ran, ran-bind, ran-goes, ran-push}
+use Rattle.legal.specs.Places.{Leads}
 
 -- a term of the store in scope under b variables
 pub record Part (s : Store) (b r : ℕ) : Type 0 where

@@ -1,5 +1,5 @@
 -- What a part of the machine comes to where it goes on: the records only grow, within the room, and what is said of store and result.
-use Prim.Native.Nat.{ℕ, _+_, _<_, _≤_}
+use Prim.Native.Nat.{ℕ, _<_, _≤_}
 use mathlib.Core.Path.{_≡_, refl, _∙_}
 use native.Mathlib.Omega.{arith}
 use native.Mathlib.Nat.{le-refl}
@@ -7,9 +7,9 @@ use native.Mathlib.Decide.{decLt}
 use lib.ListN.{length}
 use borrow.Author.Tests.{lt-ltb, le-ltb}
 use Rattle.rules.specs.declared.Failure.{Failure}
-use Rattle.rules.specs.Store.{Store, Out, goes, fail, spent, _>>=_, push}
+use Rattle.rules.specs.Store.{Store, Out, goes, fail, _>>=_, push}
 use Rattle.invariants.specs.Push.{put-length}
-use Rattle.promise.specs.Outcomes.{Ends, ended, unsaid, bind-ends, map-ends, fail-ends}
+use Rattle.promise.specs.Outcomes.{Ends, ended, bind-ends, map-ends, fail-ends}
 use Rattle.legal.specs.Sane.{added}
 
 pub record Between (R : ℕ) (s s₁ : Store) : Type 0 where

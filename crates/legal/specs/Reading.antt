@@ -1,15 +1,13 @@
 -- What lists of a legal table hold, how long they are, and that they stay while the words of the records stay.
-use Prim.Native.Nat.{ℕ, zero, suc, _*_, _<_, _≤_}
-use mathlib.Core.Path.{_≡_, refl, _∙_}
-use mathlib.Core.List.{List, [], _∷_, map}
+use Prim.Native.Nat.{ℕ, zero, suc, _<_, _≤_}
+use mathlib.Core.Path.{_≡_}
+use mathlib.Core.List.{List, [], _∷_}
 use mathlib.Core.Bool.{Bool, true}
 use native.Mathlib.Omega.{arith}
-use native.Mathlib.Nat.{le-refl}
 use native.Mathlib.Decide.{ℕ-discrete}
-use lib.ListN.{length, getD, length-map}
+use lib.ListN.{length}
 use borrow.Author.Tests.{leb-true, le-leb}
-use Rattle.rules.specs.Lists.{both}
-use Rattle.rules.specs.Words.{NONE, HO, CE, LA, CA, VA, HA, tag, fieldA, fieldB, isType, isTerm, cells, elements, arguments, variables}
+use Rattle.rules.specs.Words.{NONE, HO, CA, VA, HA, tag, fieldA, fieldB, isType, isTerm, cells, elements, arguments, variables}
 use Rattle.laws.specs.Tests.{both-true}
 use Rattle.laws.specs.Sound.{Sound, hole-context, constant-list, variable-list, hole-list, Follows, follows-type, follows-term}
 use Rattle.laws.specs.Lists.{cells-none, cells-more, elements-none}

@@ -1,31 +1,28 @@
 -- A term written anew keeps the store sane and is in scope, whatever happens at a hole, as long as that is so there.
-use Prim.Native.Nat.{ℕ, suc, _+_, _-_, _<_, _≤_}
+use Prim.Native.Nat.{ℕ, _+_, _-_, _<_, _≤_}
 use mathlib.Core.Path.{_≡_, refl, sym, _∙_}
-use mathlib.Core.List.{List, [], _∷_}
+use mathlib.Core.List.{List}
 use mathlib.Core.Bool.{true}
 use native.Mathlib.Omega.{arith}
-use native.Mathlib.Nat.{le-refl}
 use native.Mathlib.Decide.{ℕ-discrete}
 use lib.ListN.{length}
 use borrow.Author.Tests.{ne-eqb}
 use Rattle.rules.specs.declared.Found.{Found}
 use Rattle.rules.specs.declared.Found.the-variants.{At, Nowhere}
-use Rattle.rules.specs.Words.{KO, LA, CA, VA, HA, tag, fieldA, fieldB, has, isTerm, form, hole, elements, arguments}
-use Rattle.rules.specs.Store.{Store, push, _>>=_}
+use Rattle.rules.specs.Words.{KO, LA, CA, VA, tag, fieldA, has, isTerm, form, hole, arguments}
+use Rattle.rules.specs.Store.{Store}
 use Rattle.rules.specs.Map.{Map, placeOf}
-use Rattle.rules.specs.Rewrite.{Writer, writeAll, writeTerm}
+use Rattle.rules.specs.Rewrite.{Writer, writeTerm}
 use Rattle.laws.specs.Sound.{lambda-field, constant-head}
-use Rattle.invariants.specs.Floor.{All}
 use Rattle.invariants.specs.Forms.{form-6, form-7, form-8}
 use Rattle.promise.specs.Tests.{tag-is as tag-of}
 use Rattle.legal.specs.Stay.{tag-same, elements-same}
-use Rattle.legal.specs.Cells.{some-terms}
 use Rattle.legal.specs.Reading.{term-tag, all-both, arguments-terms, few-arguments}
-use Rattle.legal.specs.Scope.{Level, Scopes, scope-level, level-scope}
-use Rattle.legal.specs.Sane.{Sane, legal, Kept, added, added-same, tag-is, a-is, b-is}
-use Rattle.legal.specs.Added.{Root, lambda-added, constant-added, variable-added}
-use Rattle.legal.specs.Ran.{Between, Ran, ran-bind, ran-map, ran-fail, ran-push}
-use Rattle.legal.specs.Places.{Leads, place-below}
+use Rattle.legal.specs.Scope.{Scopes, scope-level, level-scope}
+use Rattle.legal.specs.Sane.{legal, added, added-same, tag-is, a-is, b-is}
+use Rattle.legal.specs.Added.{lambda-added, constant-added, variable-added}
+use Rattle.legal.specs.Ran.{Ran, ran-bind, ran-map, ran-fail, ran-push}
+use Rattle.legal.specs.Places.{place-below}
 use Rattle.legal.specs.Parts.{Part, scope-on, Wrote, WroteList, chain-terms, Source, Sources, Small, Writes, WritesHole, all-ran}
 
 form-other : (ws : List ℕ) (r : ℕ) → (tag ws r ≡ LA → ⊥) → (tag ws r ≡ CA → ⊥) → (tag ws r ≡ VA → ⊥) → form ws r ≡ hole

@@ -5,13 +5,12 @@ use mathlib.Core.List.{List, [], _∷_, _++_}
 use mathlib.Core.Bool.{Bool, true, false, not}
 use mathlib.Core.Logic.{_⊎_, inl, inr}
 use native.Mathlib.Omega.{arith}
-use native.Mathlib.Decide.{ℕ-discrete}
-use lib.ListN.{length, getD}
-use lib.Dec.{eqb, ltb, leb}
-use borrow.Author.Tests.{leb-true, lt-ltb, eq-eqb, ne-eqb, lt-leb, eqb-false}
+use lib.ListN.{getD}
+use lib.Dec.{eqb, leb}
+use borrow.Author.Tests.{leb-true, lt-ltb, eq-eqb, ne-eqb, lt-leb}
 use Rattle.rules.specs.Lists.{both, either, all, any, among, distinct, those, below}
-use Rattle.rules.specs.Words.{NONE, HO, CE, LA, CA, VA, HA, BT, KO, tag, fieldA, fieldB, fieldC, has, isType, isTerm, cells, elements}
-use Rattle.rules.specs.Records.{Field, Shape, never, nil, any-number, small, type as a-type, base as a-base, constant as a-constant, hole as a-hole, term as a-term, types as some-types, terms as some-terms, element as an-element, rest as a-rest, shapes, shape, fits, shaped, alike, listed, new-type, first-cell, reference, uses, first-use, keeps}
+use Rattle.rules.specs.Words.{NONE, HO, CE, LA, CA, VA, HA, BT, KO, tag, fieldA, fieldB, fieldC, isType, isTerm}
+use Rattle.rules.specs.Records.{Field, Shape, never, nil, any-number, small, type as a-type, base as a-base, constant as a-constant, hole as a-hole, term as a-term, types as some-types, terms as some-terms, element as an-element, rest as a-rest, shapes, shape, fits, shaped, listed, new-type, first-cell, reference, uses, first-use, keeps}
 use Rattle.laws.specs.Tests.{both-true, both-no}
 use Rattle.laws.specs.Members.{Begins}
 use Rattle.invariants.specs.Floor.{All}
@@ -19,7 +18,7 @@ use Rattle.invariants.specs.Grow.{all-map}
 use Rattle.invariants.specs.Pairs.{all-append}
 use Rattle.promise.specs.Tests.{both-yes, either-left, has-yes}
 use Rattle.legal.specs.Uses.{those-all, first-all}
-use Rattle.legal.specs.Stay.{either-right, begins-list, no-cell, cells-listed, below-all}
+use Rattle.legal.specs.Stay.{begins-list, no-cell, below-all}
 
 -- no record below n refers to x
 abbrev pub Free : List ℕ → ℕ → ℕ → Type 0

@@ -1,12 +1,12 @@
 -- Terms in scope: under b variables every variable is one of them or bound inside, every hole has as many arguments as its context
 -- has entries, and no hole stands under more than c variables.
 use Prim.Native.Nat.{ℕ, zero, suc, _+_, _<_, _≤_}
-use mathlib.Core.Path.{_≡_, refl, sym, _∙_}
+use mathlib.Core.Path.{_≡_, sym, _∙_}
 use mathlib.Core.List.{List, [], _∷_}
 use mathlib.Core.Bool.{true}
 use native.Mathlib.Omega.{arith}
 use lib.ListN.{length}
-use Rattle.rules.specs.Words.{HO, LA, VA, HA, tag, fieldA, isTerm, has, arguments, variables}
+use Rattle.rules.specs.Words.{HO, LA, VA, HA, tag, fieldA, isTerm, arguments, variables}
 use Rattle.laws.specs.Sound.{lambda-field, hole-head}
 use Rattle.laws.specs.Members.{Legal}
 use Rattle.invariants.specs.Floor.{All}

@@ -14,7 +14,7 @@ use Rattle.rules.specs.Answers.{number, records, pairs}
 use Rattle.rules.specs.Records.{keeps, broken}
 use Rattle.rules.specs.Store.{Store, Out, goes, fails, spent}
 use Rattle.rules.specs.Machine.{Pair, machine}
-use Rattle.rules.specs.Solve.{Refusal, admitted, refused, refusal, filled, start, leaves, solve}
+use Rattle.rules.specs.Solve.{Refusal, admitted, refused, refusal, start, leaves, solve}
 use Rattle.laws.specs.Sound.{Sound}
 use Rattle.invariants.specs.Admit.{Says, refusal-says}
 use Rattle.invariants.specs.Machine.{Ended, machine-ended}

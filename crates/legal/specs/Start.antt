@@ -1,5 +1,5 @@
 -- Where the machine starts on an admitted table, the store is sane and the sides of the equations are in scope; so it is sane where the machine goes on.
-use Prim.Native.Nat.{ℕ, _+_, _*_, _-_, _<_, _≤_}
+use Prim.Native.Nat.{ℕ, _*_, _-_, _<_}
 use mathlib.Core.Path.{_≡_, refl}
 use mathlib.Core.List.{List, [], _∷_, map}
 use mathlib.Core.Bool.{true}

@@ -5,12 +5,11 @@ use mathlib.Core.List.{List, [], _∷_}
 use mathlib.Core.Bool.{Bool, true, false, not}
 use mathlib.Core.Logic.{_⊎_, inl, inr}
 use native.Mathlib.Omega.{arith}
-use native.Mathlib.Nat.{le-refl}
 use native.Mathlib.Decide.{ℕ-discrete}
-use lib.ListN.{length, getD}
+use lib.ListN.{length}
 use lib.Dec.{eqb, ltb, leb}
 use borrow.Author.Tests.{ltb-true, lt-ltb, eqb-true, eq-eqb, le-leb, ne-eqb}
-use Rattle.rules.specs.Lists.{both, either, all, among, distinct, from, below, enough}
+use Rattle.rules.specs.Lists.{both, either, all, among, from, below}
 use Rattle.rules.specs.Words.{NONE, CE, tag, fieldA, fieldB, fieldC, has, isType, isTerm, cells, elements}
 use Rattle.rules.specs.Records.{Field, never, nil, any-number, small, type as a-type, base as a-base, constant as a-constant, hole as a-hole, term as a-term, types as some-types, terms as some-terms, element as an-element, rest as a-rest, shape, listOf, fits, shaped, alike, listed, new-type, uses, first-use, keeps}
 use Rattle.laws.specs.Tests.{both-true, either-true}

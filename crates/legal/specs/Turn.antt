@@ -10,9 +10,8 @@ use lib.Dec.{eqb, leb}
 use Rattle.rules.specs.Lists.{both, either, enough}
 use Rattle.rules.specs.Words.{LA, CA, VA, HA, tag, fieldA, has, isTerm, arguments, variables}
 use Rattle.rules.specs.Store.{Store, Out, goes, _>>=_}
-use Rattle.rules.specs.Rewrite.{expand}
 use Rattle.rules.specs.Walk.{narrow, assign}
-use Rattle.rules.specs.Machine.{Pair, Next, on, done, zip, join, agreeing, sameHole, solveOne, sameHead, meet, step, upcoming, run}
+use Rattle.rules.specs.Machine.{Pair, Next, done, zip, join, agreeing, sameHole, solveOne, sameHead, meet, step, upcoming, run}
 use Rattle.laws.specs.Tests.{both-true, either-true}
 use Rattle.laws.specs.Sound.{lambda-field}
 use Rattle.invariants.specs.Floor.{All}
@@ -24,7 +23,7 @@ use Rattle.legal.specs.Reading.{arity, all-both, arguments-terms}
 use Rattle.legal.specs.Scope.{Scopes, scope-level}
 use Rattle.legal.specs.Sane.{Sane, legal, Kept}
 use Rattle.legal.specs.Narrow.{narrow-ran}
-use Rattle.legal.specs.Ran.{Between, Ran, ran-bind, ran-map, ran-goes, ran-fail}
+use Rattle.legal.specs.Ran.{Ran, ran-bind, ran-map, ran-goes, ran-fail}
 use Rattle.legal.specs.Copy.{head-of, Side, side-kept, expand-ran}
 use Rattle.legal.specs.Walk.{assign-ran}
 

@@ -5,13 +5,13 @@ use mathlib.Core.List.{List, [], _∷_}
 use mathlib.Core.Option.{Option, some}
 use native.Mathlib.Omega.{arith}
 use lib.ListN.{length}
-use Rattle.rules.specs.Words.{tag, fieldA, fieldB, elements, LA, CA, VA, HA}
+use Rattle.rules.specs.Words.{elements}
 use Rattle.invariants.specs.Floor.{All}
 use Rattle.trees.specs.Tree.{Ty, Tree, AllL, Sig, Kind, HasTy, t-lam, t-con, t-var, t-hol, t-nil, t-cons}
 use Rattle.trees.specs.Typing.{At-lt, vars-below, vars-length}
 use Rattle.promise.specs.Reading.{Node, one, many, Reads, r-lam, r-con, r-var, r-hol, r-nil, r-cons, ReadsTys, ty-nil, ty-cons, HoleAt, listed-elements, listed-arguments, listed-variables}
 use Rattle.legal.specs.Reading.{arity}
-use Rattle.legal.specs.Scope.{Level, Scopes, level-scope}
+use Rattle.legal.specs.Scope.{Scopes, level-scope}
 
 all-of : (P : ℕ → Type 0) (xs : List ℕ) → AllL P xs → All P xs
 all-of P [] h = tt

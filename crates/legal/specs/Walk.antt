@@ -1,20 +1,18 @@
 -- The walk for a hole in a sane store, and solving a hole by it.
 use Prim.Native.Nat.{ℕ, zero, suc, _+_, _-_, _<_, _≤_}
 use mathlib.Core.Path.{_≡_, refl, sym, _∙_}
-use mathlib.Core.List.{List}
 use mathlib.Core.Bool.{Bool, true, false}
 use native.Mathlib.Omega.{arith}
 use native.Mathlib.Nat.{le-refl}
 use native.Mathlib.Decide.{ℕ-discrete}
 use lib.ListN.{length, getD, length-map}
-use lib.Dec.{eqb}
 use borrow.Author.Tests.{eq-eqb, ne-eqb}
 use Rattle.rules.specs.Lists.{enough}
 use Rattle.rules.specs.Words.{NONE, HO, HA, tag, fieldA, variables}
 use Rattle.rules.specs.Store.{Store, solved, solution, settle}
 use Rattle.rules.specs.Map.{Map, sources, targets, toPositions, follow}
 use Rattle.rules.specs.Rewrite.{Writer}
-use Rattle.rules.specs.Walk.{narrow, keepPlaced, walkHole, walk, assign}
+use Rattle.rules.specs.Walk.{keepPlaced, walkHole, walk, assign}
 use Rattle.invariants.specs.Grow.{all-map}
 use Rattle.promise.specs.Outcomes.{ended, unsaid}
 use Rattle.legal.specs.Stay.{tag-same}
@@ -23,12 +21,12 @@ use Rattle.legal.specs.Scope.{Scopes}
 use Rattle.legal.specs.Sane.{Sane, legal, Kept, kept-trans}
 use Rattle.legal.specs.Added.{root-since}
 use Rattle.legal.specs.Narrow.{occurrence-scope, settle-kept, narrow-ran}
-use Rattle.legal.specs.Lists.{Occurrence, occurrence-ran}
+use Rattle.legal.specs.Lists.{occurrence-ran}
 use Rattle.legal.specs.Ran.{Between, Ran, ran-bind, ran-map, ran-fail}
 use Rattle.legal.specs.Places.{Followed, followed, positions-lead}
 use Rattle.legal.specs.Parts.{Part, Wrote, Source, Small, Writes, WritesHole}
 use Rattle.legal.specs.Rewriting.{term-ran}
-use Rattle.legal.specs.Copy.{Head, head-of, Side, solution-of}
+use Rattle.legal.specs.Copy.{head-of, Side, solution-of}
 
 -- the map of the walk may lead nowhere
 abbrev Partial : Map → ℕ → Type 0
