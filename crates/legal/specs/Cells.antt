@@ -40,7 +40,7 @@ kind-cell some-types ws x e c = let p : tag ws x ≤ 2 = leb-true _ _ (both-true
 kind-cell some-terms ws x e c = let p : 6 ≤ tag ws x = leb-true _ _ (both-true _ _ e .0) in omega arith
 
 -- types do not count
-pub kind-counts : (k : Kind) (ws : List ℕ) (Q : ℕ → Type 0) (x : ℕ) → of k ws x ≡ true → (isTerm ws x ≡ true → Q x) → Counts ws Q x
+kind-counts : (k : Kind) (ws : List ℕ) (Q : ℕ → Type 0) (x : ℕ) → of k ws x ≡ true → (isTerm ws x ≡ true → Q x) → Counts ws Q x
 unfolding isType
 kind-counts some-types ws Q x e q l = let p : tag ws x ≤ 2 = leb-true _ _ (both-true _ _ e .1) in absurd (omega arith)
 kind-counts some-terms ws Q x e q l = q e

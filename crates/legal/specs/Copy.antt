@@ -28,13 +28,13 @@ use Rattle.legal.specs.Parts.{Part, scope-on, Wrote, Source, Small, Writ
 use Rattle.legal.specs.Rewriting.{term-ran}
 
 -- the hole that occurs at r
-pub record Head (s : Store) (b r : ℕ) : Type 0 where
+pub record Head (s : Store) (r : ℕ) : Type 0 where
   pub below : fieldA (s .words) r < s .used
   pub is : tag (s .words) (fieldA (s .words) r) ≡ HO
   pub count : length (variables (s .words) r) ≡ arity (s .words) (fieldA (s .words) r)
   pub few : length (variables (s .words) r) ≤ 16
 
-pub head-of : {R : ℕ} {s : Store} (c b r : ℕ) → Sane R s → r < s .used → tag (s .words) r ≡ HA → Scopes (s .words) c b r → Head s b r
+pub head-of : {R : ℕ} {s : Store} (c b r : ℕ) → Sane R s → r < s .used → tag (s .words) r ≡ HA → Scopes (s .words) c b r → Head s r
 head-of {s = s} c b r i lt nine h =
     let p = hole-head (s .words) (s .used) (i .sound) r lt nine in
     let l = p .0 in
@@ -52,7 +52,7 @@ module _ (R : ℕ) where
       wrote : (s₁ : Store) (x : ℕ) → s .used ≤ s₁ .used
           → (Sane R s → fieldA (s .words) r < s .used → tag (s .words) (fieldA (s .words) r) ≡ HO → All (λ v. v < 4096) (targets (follow m d 0 (variables (s .words) r)))
           → length (targets (follow m d 0 (variables (s .words) r))) ≤ 16 → Occurrence R s s₁ (fieldA (s .words) r) x (targets (follow m d 0 (variables (s .words) r))))
-          → (T b : ℕ) → Source R Total m T b d r s → tag (s .words) r ≡ HA → Small R Total (T + d) s s₁ → Wrote R (T + d) s s₁ x
+          → (T b : ℕ) → Source R Total m T b d r s → tag (s .words) r ≡ HA → Small (T + d) s s₁ → Wrote R (T + d) s s₁ x
       wrote s₁ x g p T b i nine c =
           let h = head-of (i .part .cap) (b + d) r (i .sane) (i .part .below) nine (i .part .scope) in
           let names = scope-level (s .words) (i .part .cap) (b + d) r (i .part .scope) .names nine in
@@ -95,7 +95,7 @@ solution-of {s = s} h i lt e = let w = i .within in i .sols h (omega arith) (eqb
 module _ (R : ℕ) (r : ℕ) (s : Store) where
   -- the copy of the solution of the hole that occurs at r
   copied : (s₁ : Store) (t : ℕ) → Between R s s₁ → tag (s .words) r ≡ HA → solved s (fieldA (s .words) r) ≡ true
-      → ((T b : ℕ) → Source R Total (toVariables 0 (variables (s .words) r)) T b 0 (solution s (fieldA (s .words) r)) s → Small R Total (T + 0) s s₁ → Wrote R (T + 0) s s₁ t)
+      → ((T b : ℕ) → Source R Total (toVariables 0 (variables (s .words) r)) T b 0 (solution s (fieldA (s .words) r)) s → Small (T + 0) s s₁ → Wrote R (T + 0) s s₁ t)
       → Sane R s → Side s r → Kept R s s₁ × Side s₁ t
   unfolding solution
   copied s₁ t bt nine so p i h =

@@ -43,13 +43,13 @@ map-kept {s = s} ws₁ l xs vs i k c e =
     ∙ e
 
 -- a list of bare variables of these numbers
-pub record Named (R : ℕ) (s s₁ : Store) (l : ℕ) (vs : List ℕ) : Type 0 where
-  pub kept : Kept R s s₁
-  pub records : List ℕ
-  pub chain : Chain some-terms s s₁ l records
-  pub names : map (λ x. fieldA (s₁ .words) x) records ≡ vs
+record Named (R : ℕ) (s s₁ : Store) (l : ℕ) (vs : List ℕ) : Type 0 where
+  kept : Kept R s s₁
+  records : List ℕ
+  chain : Chain some-terms s s₁ l records
+  names : map (λ x. fieldA (s₁ .words) x) records ≡ vs
 
-pub variables-ran : (R : ℕ) (vs : List ℕ) (s : Store) → Ran R s (λ s₁ l. Sane R s → All (λ v. v < 4096) vs → length vs ≤ 16 → Named R s s₁ l vs) (pushVariables R vs s)
+variables-ran : (R : ℕ) (vs : List ℕ) (s : Store) → Ran R s (λ s₁ l. Sane R s → All (λ v. v < 4096) vs → length vs ≤ 16 → Named R s s₁ l vs) (pushVariables R vs s)
 unfolding pushVariables
 variables-ran R [] s = ran-goes R (λ i h f. record { kept = kept-refl i; records = []; chain = no-chain some-terms s s; names = refl })
 variables-ran R (v ∷ vs) s =

@@ -82,13 +82,6 @@ pub record Narrowed (R k : ℕ) (s s₁ : Store) (x : ℕ) : Type 0 where
   pub is : tag (s₁ .words) x ≡ HO
   pub takes : arity (s₁ .words) x ≡ k
 
--- the new hole, before the old one is settled
-record Declared (R : ℕ) (s s₂ : Store) (x k : ℕ) : Type 0 where
-  kept : Kept R s s₂
-  below : x < s₂ .used
-  is : tag (s₂ .words) x ≡ HO
-  takes : arity (s₂ .words) x ≡ k
-
 module _ (R h : ℕ) (ks : List ℕ) (s : Store) where
   -- what narrowing asks
   pub record Narrows : Type 0 where
@@ -102,7 +95,7 @@ module _ (R h : ℕ) (ks : List ℕ) (s : Store) where
   entries = map (λ k. getD (elements (s .words) (fieldA (s .words) h)) k 0) ks
 
   declare : (s₁ : Store) (l : ℕ) → s₁ .used < R → (Sane R s → All (λ x. (x < s .used) × (isType (s .words) x ≡ true)) entries → length entries ≤ 16 → Kept R s s₁ × Chain some-types s s₁ l entries)
-      → Narrows → Declared R s (added s₁ HO l (fieldB (s .words) h)) (s₁ .used) (length ks)
+      → Narrows → Narrowed R (length ks) s (added s₁ HO l (fieldB (s .words) h)) (s₁ .used)
   declare s₁ l lt p n =
       let i = n .sane in
       let lo = n .low in
@@ -124,7 +117,7 @@ module _ (R h : ℕ) (ks : List ℕ) (s : Store) where
         takes = rw (a-is HO l (fieldB (s .words) h) (k .sane) lt, els, q .1 .is) (simp length-map);
       }
 
-  finish : (s₂ : Store) (x : ℕ) → (Narrows → Declared R s s₂ x (length ks)) → (s₃ : Store) (t : ℕ)
+  finish : (s₂ : Store) (x : ℕ) → (Narrows → Narrowed R (length ks) s s₂ x) → (s₃ : Store) (t : ℕ)
       → (Sane R s₂ → x < s₂ .used → tag (s₂ .words) x ≡ HO → All (λ v. v < 4096) ks → length ks ≤ 16 → Occurrence R s₂ s₃ x t ks)
       → Narrows → Narrowed R (length ks) s (settle h t s₃) x
   unfolding settle
@@ -159,5 +152,5 @@ module _ (R h : ℕ) (ks : List ℕ) (s : Store) where
       ended (record { grown = le-refl _; within = λ z. z; long = refl }, finish s₂ x d s₃ t q)
     where
       declares : (s₁ : Store) (l : ℕ) → (Sane R s → All (λ x. (x < s .used) × (isType (s .words) x ≡ true)) entries → length entries ≤ 16 → Kept R s s₁ × Chain some-types s s₁ l entries)
-          → Ran R s₁ (λ s₂ x. Narrows → Declared R s s₂ x (length ks)) (push R HO l (fieldB (s .words) h) s₁)
+          → Ran R s₁ (λ s₂ x. Narrows → Narrowed R (length ks) s s₂ x) (push R HO l (fieldB (s .words) h) s₁)
       declares s₁ l p = ran-push R HO l (fieldB (s .words) h) s₁ (λ lt n. declare s₁ l lt p n)

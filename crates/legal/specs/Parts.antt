@@ -31,7 +31,7 @@ pub record Part (s : Store) (b r : ℕ) : Type 0 where
   pub cap : ℕ
   pub scope : Scopes (s .words) cap b r
 
-pub part-kept : {R : ℕ} {s s₁ : Store} {b : ℕ} (x : ℕ) → Sane R s → Kept R s s₁ → Part s b x → Part s₁ b x
+part-kept : {R : ℕ} {s s₁ : Store} {b : ℕ} (x : ℕ) → Sane R s → Kept R s s₁ → Part s b x → Part s₁ b x
 part-kept {s = s} {s₁} {b} x i k p =
     let l = p .below in
     let g = k .grown in
@@ -65,6 +65,11 @@ chain-terms {s = s} {l} xs i c =
     let e = elements-every (s .words) (s .used) (i .sound) (isTerm (s .words)) (follows-term (s .words) (s .used) (i .sound)) (s .used) l (le-refl _) (c .begins) in
     every-all (λ x. (x < s .used) × (isTerm (s .words) x ≡ true)) xs (rw (c .is) at e)
 
+-- variables below B and as many more as records were written are below 4,096. While a term is written, a variable under lambdas that are
+-- still to be written can be higher than there are records; where the whole of it is written, this holds
+abbrev pub Small : ℕ → Store → Store → Type 0
+Small B s s₁ = B + (s₁ .used - s .used) ≤ 4096
+
 module _ (R : ℕ) (Fits : Map → ℕ → Type 0) where
   -- what a writer asks at a map from b variables to T, under d lambdas
   pub record Source (m : Map) (T b d r : ℕ) (s : Store) : Type 0 where
@@ -80,10 +85,6 @@ module _ (R : ℕ) (Fits : Map → ℕ → Type 0) where
     pub short : length xs ≤ 16
     pub leads : Leads m T
     pub fits : Fits m b
-
-  -- a number of variables so low is below 4,096, whatever of the term is written yet
-  abbrev pub Small : ℕ → Store → Store → Type 0
-  Small B s s₁ = B + (s₁ .used - s .used) ≤ 4096
 
   -- a writer that keeps the store sane
   abbrev pub Writes : Writer → Type 0

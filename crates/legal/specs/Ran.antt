@@ -17,10 +17,10 @@ pub record Between (R : ℕ) (s s₁ : Store) : Type 0 where
   pub within : s .used ≤ R → s₁ .used ≤ R
   pub long : length (s₁ .words) ≡ length (s .words)
 
-pub between-refl : {R : ℕ} {s : Store} → Between R s s
+between-refl : {R : ℕ} {s : Store} → Between R s s
 between-refl = record { grown = le-refl _; within = λ h. h; long = refl }
 
-pub between-trans : {R : ℕ} {s s₁ s₂ : Store} → Between R s s₁ → Between R s₁ s₂ → Between R s s₂
+between-trans : {R : ℕ} {s s₁ s₂ : Store} → Between R s s₁ → Between R s₁ s₂ → Between R s s₂
 between-trans a b = let x = a .grown in let y = b .grown in record { grown = omega arith; within = λ h. b .within (a .within h); long = b .long ∙ a .long }
 
 -- of failures nothing is said

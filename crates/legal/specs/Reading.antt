@@ -43,7 +43,7 @@ module _ (ws : List ℕ) (n : ℕ) (t : Legal ws n) where
   g = t .sound
 
   -- the arguments of an applied record
-  pub arguments-begin : (r : ℕ) → r < n → 7 ≤ tag ws r → tag ws r ≤ 9 → Begins (isTerm ws) ws r (fieldB ws r)
+  arguments-begin : (r : ℕ) → r < n → 7 ≤ tag ws r → tag ws r ≤ 9 → Begins (isTerm ws) ws r (fieldB ws r)
   arguments-begin r h lo hi = go (ℕ-discrete (tag ws r) CA) (ℕ-discrete (tag ws r) VA)
     where
       go : Dec (tag ws r ≡ CA) → Dec (tag ws r ≡ VA) → Begins (isTerm ws) ws r (fieldB ws r)
@@ -51,7 +51,7 @@ module _ (ws : List ℕ) (n : ℕ) (t : Legal ws n) where
       go (no e) (yes d) = begins ws n g (isTerm ws) r h (fieldB ws r) (variable-list ws n g r h d)
       go (no e) (no d) = begins ws n g (isTerm ws) r h (fieldB ws r) (hole-list ws n g r h (omega arith))
 
-  pub context-begins : (h : ℕ) → h < n → tag ws h ≡ HO → Begins (isType ws) ws h (fieldA ws h)
+  context-begins : (h : ℕ) → h < n → tag ws h ≡ HO → Begins (isType ws) ws h (fieldA ws h)
   context-begins h lt e = begins ws n g (isType ws) h lt (fieldA ws h) (hole-context ws n g h lt e)
 
   -- so many arguments are lower terms

@@ -53,10 +53,10 @@ head-scope {B = B} {s = s} {s₁} t a l w lt lo hi low =
 
 module _ (R : ℕ) (Fits : Map → ℕ → Type 0) (onHole w : Writer) (at : WritesHole R Fits onHole) (writes : Writes R Fits w) (m : Map) (d r : ℕ) (s : Store) where
   abbrev Says : Store → ℕ → Type 0
-  Says s₁ x = (T b : ℕ) → Source R Fits m T b d r s → Small R Fits (T + d) s s₁ → Wrote R (T + d) s s₁ x
+  Says s₁ x = (T b : ℕ) → Source R Fits m T b d r s → Small (T + d) s s₁ → Wrote R (T + d) s s₁ x
 
   lambda-wrote : (s₁ : Store) (y : ℕ) → s .used ≤ s₁ .used → s₁ .used < R → tag (s .words) r ≡ LA
-      → ((T b : ℕ) → Source R Fits m T b (d + 1) (fieldA (s .words) r) s → Small R Fits (T + (d + 1)) s s₁ → Wrote R (T + (d + 1)) s s₁ y) → Says (added s₁ LA y 0) (s₁ .used)
+      → ((T b : ℕ) → Source R Fits m T b (d + 1) (fieldA (s .words) r) s → Small (T + (d + 1)) s s₁ → Wrote R (T + (d + 1)) s s₁ y) → Says (added s₁ LA y 0) (s₁ .used)
   lambda-wrote s₁ y g lt e p T b i c =
       let a = lambda-field (s .words) (s .used) (i .sane .sound) r (i .part .below) e in
       let a₀ = a .0 in
@@ -100,7 +100,7 @@ module _ (R : ℕ) (Fits : Map → ℕ → Type 0) (onHole w : Writer) (at : Wri
       }
 
   constant-wrote : (s₁ : Store) (l : ℕ) → s₁ .used < R → s .used ≤ s₁ .used → tag (s .words) r ≡ CA
-      → ((T b : ℕ) → Sources R Fits m T b d (arguments (s .words) r) s → Small R Fits (T + d) s s₁ → WroteList R (T + d) (length (arguments (s .words) r)) s s₁ l)
+      → ((T b : ℕ) → Sources R Fits m T b d (arguments (s .words) r) s → Small (T + d) s s₁ → WroteList R (T + d) (length (arguments (s .words) r)) s s₁ l)
       → Says (added s₁ CA (fieldA (s .words) r) l) (s₁ .used)
   constant-wrote s₁ l lt g e p T b i c =
       let v = p T b (sources T b i (omega arith) (omega arith)) (omega arith) in
@@ -112,7 +112,7 @@ module _ (R : ℕ) (Fits : Map → ℕ → Type 0) (onHole w : Writer) (at : Wri
       record { kept = k .0; root = k .1; scope = head-scope CA (fieldA (s .words) r) l v lt (omega arith) (omega arith) (λ z. absurd (omega arith)) }
 
   variable-wrote : (s₁ : Store) (x l : ℕ) → s₁ .used < R → s .used ≤ s₁ .used → tag (s .words) r ≡ VA → placeOf m d (fieldA (s .words) r) ≡ At x
-      → ((T b : ℕ) → Sources R Fits m T b d (arguments (s .words) r) s → Small R Fits (T + d) s s₁ → WroteList R (T + d) (length (arguments (s .words) r)) s s₁ l)
+      → ((T b : ℕ) → Sources R Fits m T b d (arguments (s .words) r) s → Small (T + d) s s₁ → WroteList R (T + d) (length (arguments (s .words) r)) s s₁ l)
       → Says (added s₁ VA x l) (s₁ .used)
   variable-wrote s₁ x l lt g e at p T b i c =
       let v = p T b (sources T b i (omega arith) (omega arith)) (omega arith) in

@@ -153,7 +153,7 @@ module _ (ws : List ℕ) (r : ℕ) (Q : ℕ → Type 0) where
       made LA a-term nil e refl (omega arith) (both-yes _ _ (lt-ltb _ _ lt) t) (eq-eqb _ _ b) c (plain LA e (λ z. omega arith)) (λ l. q, tt) tt (tt, tt)
 
   -- records of different tags are different
-  pub apart : (x y k l : ℕ) → tag ws x ≡ k → tag ws y ≡ l → (k ≡ l → ⊥) → x ≡ y → ⊥
+  apart : (x y k l : ℕ) → tag ws x ≡ k → tag ws y ≡ l → (k ≡ l → ⊥) → x ≡ y → ⊥
   apart x y k l e f n i = n (sym e ∙ ap (tag ws) i ∙ f)
 
   pub constant-right : tag ws r ≡ CA → fieldA ws r < r → tag ws (fieldA ws r) ≡ KO → fieldC ws r ≡ 0 → Begins (isTerm ws) ws r (fieldB ws r) → ((fieldB ws r ≡ NONE → ⊥) → Q (fieldB ws r)) → Right ws r Q

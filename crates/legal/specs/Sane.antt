@@ -102,9 +102,6 @@ module _ {R : ℕ} {s : Store} (t a b : ℕ) (i : Sane R s) (lt : s .used < R) w
   pub old-sound : Sound (added s t a b .words) (s .used)
   old-sound = sound-same (s .words) (added s t a b .words) (s .used) (legal i) added-same
 
-  pub old-legal : Legal (added s t a b .words) (s .used)
-  old-legal = let z = put-length (s .words) (s .used) t a b in let l = legal i in record { inside = rw z (l .inside); few = l .few; sound = old-sound }
-
   pub free-added : (x : ℕ) → Free (s .words) (s .used) x → Free (added s t a b .words) (s .used) x
   free-added x f j l = rw (uses-same (s .words) (s .used) (i .sound) j l (added s t a b .words) added-same) (f j l)
 

@@ -50,7 +50,7 @@ unfolding has
 no-cell ws r d = rw (ne-eqb _ _ d)
 
 -- a list's first cells are no more than all of them
-pub cells-fewer : (j k : ℕ) (ws : List ℕ) (l : ℕ) → length (cells j ws l) ≤ length (cells (j + k) ws l)
+cells-fewer : (j k : ℕ) (ws : List ℕ) (l : ℕ) → length (cells j ws l) ≤ length (cells (j + k) ws l)
 unfolding cells
 cells-fewer zero k ws l = omega arith
 cells-fewer (suc j) k ws l = go (ℕ-discrete l NONE) (cells-fewer j k ws (fieldB ws l))
@@ -74,7 +74,7 @@ unfolding all
 all-same f g [] h = refl
 all-same f g (x ∷ xs) h = rw (h .0, all-same f g xs (h .1))
 
-pub all-each : (P : ℕ → Type 0) → ((x : ℕ) → P x) → (xs : List ℕ) → All P xs
+all-each : (P : ℕ → Type 0) → ((x : ℕ) → P x) → (xs : List ℕ) → All P xs
 all-each P h [] = tt
 all-each P h (x ∷ xs) = (h x, all-each P h xs)
 

@@ -41,7 +41,7 @@ record Placed (R B h k : ℕ) (m : Map) (s : Store) : Type 0 where
   map : Followed 0 k B m
 
 module _ (R : ℕ) where
-  keep-ran : (h k : ℕ) (m : Map) (s : Store) → Ran R s (λ s₁ x. (B : ℕ) → Placed R B h k m s → Small R Partial B s s₁ → Wrote R B s s₁ x) (keepPlaced R h k m s)
+  keep-ran : (h k : ℕ) (m : Map) (s : Store) → Ran R s (λ s₁ x. (B : ℕ) → Placed R B h k m s → Small B s s₁ → Wrote R B s s₁ x) (keepPlaced R h k m s)
   unfolding keepPlaced
   keep-ran h k m s = go (ℕ-discrete (length m) k)
     where
@@ -54,7 +54,7 @@ module _ (R : ℕ) where
       few : (B : ℕ) → Placed R B h k m s → length m ≤ 16
       few B p = let a = arity-few (s .words) (s .used) (legal (p .sane)) h (p .below) (p .is) in let t = p .takes in let f = p .map .few in omega arith
 
-      go : Dec (length m ≡ k) → Ran R s (λ s₁ x. (B : ℕ) → Placed R B h k m s → Small R Partial B s s₁ → Wrote R B s s₁ x) (keepPlaced R h k m s)
+      go : Dec (length m ≡ k) → Ran R s (λ s₁ x. (B : ℕ) → Placed R B h k m s → Small B s s₁ → Wrote R B s s₁ x) (keepPlaced R h k m s)
       go (yes e) =
           rw (eq-eqb _ _ e, keepPlaced)
           (ran-map R (occurrence-ran R h (targets m) s) λ s₁ x b₁ p B q c.
@@ -80,10 +80,10 @@ module _ (R : ℕ) where
   hole-ran u go writes m d r s = at (ℕ-discrete (fieldA (s .words) r) u) (solved s (fieldA (s .words) r)) refl
     where
       Says : Store → ℕ → Type 0
-      Says s₁ x = (T b : ℕ) → Source R Partial m T b d r s → tag (s .words) r ≡ HA → Small R Partial (T + d) s s₁ → Wrote R (T + d) s s₁ x
+      Says s₁ x = (T b : ℕ) → Source R Partial m T b d r s → tag (s .words) r ≡ HA → Small (T + d) s s₁ → Wrote R (T + d) s s₁ x
 
       below : (s₁ : Store) (x : ℕ) → solved s (fieldA (s .words) r) ≡ true
-          → ((T b : ℕ) → Source R Partial (follow m d 0 (variables (s .words) r)) T b 0 (getD (s .solutions) (fieldA (s .words) r) NONE) s → Small R Partial (T + 0) s s₁ → Wrote R (T + 0) s s₁ x)
+          → ((T b : ℕ) → Source R Partial (follow m d 0 (variables (s .words) r)) T b 0 (getD (s .solutions) (fieldA (s .words) r) NONE) s → Small (T + 0) s s₁ → Wrote R (T + 0) s s₁ x)
           → Says s₁ x
       below s₁ x e p T b i nine c =
           let h = head-of (i .part .cap) (b + d) r (i .sane) (i .part .below) nine (i .part .scope) in
@@ -95,7 +95,7 @@ module _ (R : ℕ) where
           rw y at w
 
       kept : (s₁ : Store) (x : ℕ)
-          → ((B : ℕ) → Placed R B (fieldA (s .words) r) (length (variables (s .words) r)) (follow m d 0 (variables (s .words) r)) s → Small R Partial B s s₁ → Wrote R B s s₁ x) → Says s₁ x
+          → ((B : ℕ) → Placed R B (fieldA (s .words) r) (length (variables (s .words) r)) (follow m d 0 (variables (s .words) r)) s → Small B s s₁ → Wrote R B s s₁ x) → Says s₁ x
       kept s₁ x p T b i nine c =
           let h = head-of (i .part .cap) (b + d) r (i .sane) (i .part .below) nine (i .part .scope) in
           p (T + d) (record { sane = i .sane; below = h .below; is = h .is; takes = h .count; map = followed m d T 0 (variables (s .words) r) (i .leads) }) c
@@ -121,7 +121,7 @@ module _ (R : ℕ) where
       ended (record { grown = le-refl _; within = λ z. z; long = refl }, settles s₁ t b₁ p)
     where
       settles : (s₁ : Store) (t : ℕ) → Between R s s₁
-          → ((T b : ℕ) → Source R Partial (toPositions 0 (variables (s .words) l)) T b 0 r s → Small R Partial (T + 0) s s₁ → Wrote R (T + 0) s s₁ t) → Kept R s (settle (fieldA (s .words) l) t s₁)
+          → ((T b : ℕ) → Source R Partial (toPositions 0 (variables (s .words) l)) T b 0 r s → Small (T + 0) s s₁ → Wrote R (T + 0) s s₁ t) → Kept R s (settle (fieldA (s .words) l) t s₁)
       settles s₁ t bt p =
           let u = fieldA (s .words) l in
           let h = head-of (s .used) (hl .under) l i (hl .below) nine (hl .scope) in
