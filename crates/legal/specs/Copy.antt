@@ -3,6 +3,7 @@ use Prim.Native.Nat.{ℕ, zero, suc, _+_, _-_, _<_, _≤_}
 use mathlib.Core.Path.{_≡_, refl, sym, _∙_}
 use mathlib.Core.Bool.{Bool, true, false}
 use native.Mathlib.Omega.{arith}
+use native.Mathlib.Nat.{le-refl}
 use lib.ListN.{length, getD, length-map}
 use borrow.Author.Tests.{not-true, eqb-false}
 use Rattle.rules.specs.Lists.{both, enough}
@@ -15,16 +16,17 @@ use Rattle.laws.specs.Sound.{hole-head}
 use Rattle.invariants.specs.Floor.{All}
 use Rattle.invariants.specs.Grow.{all-map}
 use Rattle.promise.specs.Tests.{tag-is as tag-of}
+use Rattle.promise.specs.Reading.{same-refl}
 use Rattle.promise.specs.Outcomes.{unsaid}
 use Rattle.legal.specs.Stay.{term-same}
 use Rattle.legal.specs.Reading.{arity, arity-same, arity-few}
-use Rattle.legal.specs.Scope.{Scopes, scope-level, scopes-more}
+use Rattle.legal.specs.Scope.{Scopes, scope-level, Part, part-on}
 use Rattle.legal.specs.Sane.{Solution, Sane, legal, Kept, kept-refl, kept-trans}
-use Rattle.legal.specs.Narrow.{occurrence-scope}
+use Rattle.legal.specs.Narrow.{occurrence-part}
 use Rattle.legal.specs.Lists.{Occurrence, occurrence-ran}
 use Rattle.legal.specs.Ran.{Between, Ran, ran-bind, ran-map, ran-goes}
 use Rattle.legal.specs.Places.{Total, followed, follow-all, variables-lead, variables-total}
-use Rattle.legal.specs.Parts.{Part, scope-on, Wrote, Source, Small, Writes, WritesHole}
+use Rattle.legal.specs.Parts.{Wrote, Source, Small, Writes, WritesHole}
 use Rattle.legal.specs.Rewriting.{term-ran}
 
 -- the hole that occurs at r
@@ -54,15 +56,15 @@ module _ (R : ℕ) where
           → length (targets (follow m d 0 (variables (s .words) r))) ≤ 16 → Occurrence R s s₁ (fieldA (s .words) r) x (targets (follow m d 0 (variables (s .words) r))))
           → (T b : ℕ) → Source R Total m T b d r s → tag (s .words) r ≡ HA → Small (T + d) s s₁ → Wrote R (T + d) s s₁ x
       wrote s₁ x g p T b i nine c =
-          let h = head-of (i .part .cap) (b + d) r (i .sane) (i .part .below) nine (i .part .scope) in
-          let names = scope-level (s .words) (i .part .cap) (b + d) r (i .part .scope) .names nine in
+          let h = head-of (i .cap) (b + d) r (i .sane) (i .part .below) nine (i .part .scope) in
+          let names = scope-level (s .words) (i .cap) (b + d) r (i .part .scope) .names nine in
           let fo = followed m d T 0 (variables (s .words) r) (i .leads) in
           let whole : length (follow m d 0 (variables (s .words) r)) ≡ length (variables (s .words) r) = follow-all m b d 0 (variables (s .words) r) (i .fits) names in
           let n : length (targets (follow m d 0 (variables (s .words) r))) ≡ length (follow m d 0 (variables (s .words) r)) = simp length-map in
           let hf = h .few in
           let o = p (i .sane) (h .below) (h .is) (all-map (λ w. w < T + d) (λ w. w < 4096) (λ w z. omega arith) (targets (follow m d 0 (variables (s .words) r))) (fo .to)) (omega arith) in
           let a = arity-same (s .words) (s .used) (legal (i .sane)) (s₁ .words) (o .kept .same) (fieldA (s .words) r) (h .below) (h .is) in
-          record { kept = o .kept; root = o .root; scope = occurrence-scope (T + d + (s₁ .used - s .used)) (T + d) o (fo .to) (n ∙ whole ∙ h .count ∙ sym a) (omega arith) }
+          record { kept = o .kept; root = o .root; part = occurrence-part (T + d + (s₁ .used - s .used)) (T + d) o (fo .to) (n ∙ whole ∙ h .count ∙ sym a) (omega arith) }
 
   copy-ran : (f : ℕ) → Writes R Total (copy f R)
   unfolding copy
@@ -71,21 +73,11 @@ module _ (R : ℕ) where
 
 -- a side of a pair: a term in scope, where no hole stands under more variables than there are records
 pub record Side (s : Store) (x : ℕ) : Type 0 where
-  pub below : x < s .used
-  pub term : isTerm (s .words) x ≡ true
   pub under : ℕ
-  pub scope : Scopes (s .words) (s .used) under x
+  pub part : Part s (s .used) under x
 
 pub side-kept : {R : ℕ} {s s₁ : Store} (x : ℕ) → Sane R s → Kept R s s₁ → Side s x → Side s₁ x
-side-kept {s = s} {s₁} x i k h =
-    let g = k .grown in
-    let l = h .below in
-    record {
-      below = omega arith;
-      term = rw (term-same (s .words) (s₁ .words) (s .used) (legal i) (k .same) x l) (h .term);
-      under = h .under;
-      scope = scope-on (s₁ .words) (s .used) (s₁ .used) (h .under) x i (k .same) l (h .term) g (h .scope);
-    }
+side-kept {s = s} {s₁} x i k h = record { under = h .under; part = part-on (s .used) (s₁ .used) (h .under) x (legal i) (k .same) (k .grown) (k .grown) (h .part) }
 
 -- the solution of a solved hole
 pub solution-of : {R : ℕ} {s : Store} (h : ℕ) → Sane R s → h < s .used → solved s h ≡ true → Solution s h
@@ -99,18 +91,17 @@ module _ (R : ℕ) (r : ℕ) (s : Store) where
       → Sane R s → Side s r → Kept R s s₁ × Side s₁ t
   unfolding solution
   copied s₁ t bt nine so p i h =
-      let v = scope-level (s .words) (s .used) (h .under) r (h .scope) in
+      let v = scope-level (s .words) (s .used) (h .under) r (h .part .scope) in
       let cap = v .cap nine in
-      let hd = head-of (s .used) (h .under) r i (h .below) nine (h .scope) in
+      let hd = head-of (s .used) (h .under) r i (h .part .below) nine (h .part .scope) in
       let o = solution-of (fieldA (s .words) r) i (hd .below) so in
       let z : arity (s .words) (fieldA (s .words) r) + 0 ≡ arity (s .words) (fieldA (s .words) r) = omega arith in
-      let part : Part s (arity (s .words) (fieldA (s .words) r) + 0) (getD (s .solutions) (fieldA (s .words) r) NONE) = record { below = o .below; term = o .term; cap = o .cap; scope = rw z (o .scope) } in
       let wi = bt .within (i .within) in
       let fe = i .few in
       let g = bt .grown in
       let w = p (h .under) (arity (s .words) (fieldA (s .words) r))
-          (record { sane = i; part = part; leads = variables-lead 0 (h .under) (variables (s .words) r) (v .names nine); fits = rw (← hd .count) (variables-total (variables (s .words) r)) }) (omega arith) in
-      (w .kept, record { below = w .root .below; term = w .root .term; under = h .under + 0; scope = scopes-more (s₁ .words) (h .under + 0 + (s₁ .used - s .used)) (s₁ .used) (h .under + 0) t (omega arith) (w .scope) })
+          (record { sane = i; cap = o .cap; part = rw z (o .part); leads = variables-lead 0 (h .under) (variables (s .words) r) (v .names nine); fits = rw (← hd .count) (variables-total (variables (s .words) r)) }) (omega arith) in
+      (w .kept, record { under = h .under + 0; part = part-on (h .under + 0 + (s₁ .used - s .used)) (s₁ .used) (h .under + 0) t (legal (w .kept .sane)) same-refl (le-refl _) (omega arith) (w .part) })
 
 pub expand-ran : (R f r : ℕ) (s : Store) → Ran R s (λ s₁ x. Sane R s → Side s r → Kept R s s₁ × Side s₁ x) (expand f R r s)
 unfolding expand

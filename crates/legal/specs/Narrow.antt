@@ -18,7 +18,7 @@ use Rattle.promise.specs.Tests.{tag-is as tag-of}
 use Rattle.legal.specs.Stay.{tag-same, elements-same}
 use Rattle.legal.specs.Cells.{some-types}
 use Rattle.legal.specs.Reading.{arity, arity-same, arity-few, context-types}
-use Rattle.legal.specs.Scope.{Scopes, level-scope}
+use Rattle.legal.specs.Scope.{level-scope, Part}
 use Rattle.legal.specs.Sane.{Solution, Sane, legal, Kept, kept-trans, added, added-same, tag-is, a-is}
 use Rattle.legal.specs.Added.{Chain, hole-added}
 use Rattle.legal.specs.Ran.{Ran, ran-bind, ran-push}
@@ -26,10 +26,10 @@ use Rattle.legal.specs.Lists.{cells-ran, Occurrence, occurrence-ran}
 use Rattle.promise.specs.Outcomes.{ended}
 
 -- an occurrence is in scope where its variables are, and it has as many as its hole takes
-pub occurrence-scope : {R : ℕ} {s s₁ : Store} {h x : ℕ} {vs : List ℕ} (c b : ℕ) → Occurrence R s s₁ h x vs → All (λ v. v < b) vs → length vs ≡ arity (s₁ .words) h → b ≤ c → Scopes (s₁ .words) c b x
-occurrence-scope {s₁ = s₁} {h} {x} {vs} c b o low count le =
+pub occurrence-part : {R : ℕ} {s s₁ : Store} {h x : ℕ} {vs : List ℕ} (c b : ℕ) → Occurrence R s s₁ h x vs → All (λ v. v < b) vs → length vs ≡ arity (s₁ .words) h → b ≤ c → Part s₁ c b x
+occurrence-part {s₁ = s₁} {h} {x} {vs} c b o low count le =
     let e = o .is in
-    level-scope (s₁ .words) c b x
+    record { below = o .root .below; term = o .root .term; scope = level-scope (s₁ .words) c b x
     (record {
       body = λ z. absurd (omega arith);
       number = λ z. absurd (omega arith);
@@ -37,13 +37,13 @@ occurrence-scope {s₁ = s₁} {h} {x} {vs} c b o low count le =
       names = λ z. rw (o .names) low;
       count = λ z. rw (o .names, o .head) count;
       cap = λ z. le;
-    })
+    }) }
 
 -- a hole is settled by a term in scope under its context
-pub settle-kept : {R : ℕ} {s s₁ : Store} (c h t : ℕ) → Kept R s s₁ → h < s₁ .used → tag (s₁ .words) h ≡ HO → t < s₁ .used → isTerm (s₁ .words) t ≡ true → Scopes (s₁ .words) c (arity (s₁ .words) h) t
+pub settle-kept : {R : ℕ} {s s₁ : Store} (c h t : ℕ) → Kept R s s₁ → h < s₁ .used → tag (s₁ .words) h ≡ HO → Part s₁ c (arity (s₁ .words) h) t
     → Kept R s (settle h t s₁)
 unfolding settle
-settle-kept {R} {s} {s₁} c h t k lt four low term scope =
+settle-kept {R} {s} {s₁} c h t k lt four part =
     let i = k .sane in
     record {
       sane = record { room = i .room; held = simp length-set (i .held); few = i .few; within = i .within; sound = i .sound; sols = λ v l n. at v l n (ℕ-discrete v h) };
@@ -52,15 +52,18 @@ settle-kept {R} {s} {s₁} c h t k lt four low term scope =
       own = k .own;
     }
   where
+    as-settled : {c b x : ℕ} → Part s₁ c b x → Part (settle h t s₁) c b x
+    as-settled p = record { below = p .below; term = p .term; scope = p .scope }
+
     still : (v : ℕ) → getD (set (s₁ .solutions) h t) v NONE ≡ getD (s₁ .solutions) v NONE → Solution s₁ v → Solution (settle h t s₁) v
-    still v e o = record { hole = o .hole; is = o .is; below = rw e (o .below); term = rw e (o .term); cap = o .cap; scope = rw e (o .scope) }
+    still v e o = record { hole = o .hole; is = o .is; cap = o .cap; part = rw e (as-settled (o .part)) }
 
     at : (v : ℕ) → v < R → (getD (set (s₁ .solutions) h t) v NONE ≡ NONE → ⊥) → Dec (v ≡ h) → Solution (settle h t s₁) v
     at v l n (yes z) =
         let w = k .sane .within in
         let d = k .sane .held in
         let e : getD (set (s₁ .solutions) h t) v NONE ≡ t = rw z (getD-set-same (s₁ .solutions) h t NONE (omega arith)) in
-        record { hole = omega arith; is = rw z four; below = rw e low; term = rw e term; cap = c; scope = rw (e, z) scope }
+        record { hole = omega arith; is = rw z four; cap = c; part = rw (e, z) (as-settled part) }
     at v l n (no z) =
         let e : getD (set (s₁ .solutions) h t) v NONE ≡ getD (s₁ .solutions) v NONE = getD-set-other (s₁ .solutions) h v t NONE z in
         still v e (k .sane .sols v l (λ q. n (e ∙ q)))
@@ -135,9 +138,9 @@ module _ (R h : ℕ) (ks : List ℕ) (s : Store) where
       let tag₃ = tag-same (s₂ .words) (s₃ .words) (s₂ .used) (legal i₂) (o .kept .same) x b ∙ e .is in
       let takes₃ : arity (s₃ .words) x ≡ length ks = arity-same (s₂ .words) (s₂ .used) (legal i₂) (s₃ .words) (o .kept .same) x b (e .is) ∙ e .takes in
       let old : arity (s₃ .words) h ≡ arity (s .words) h = arity-same (s .words) (s .used) (legal i) (s₃ .words) (k₃ .same) h lo (n .is) in
-      let scope : Scopes (s₃ .words) (arity (s .words) h) (arity (s .words) h) t = occurrence-scope (arity (s .words) h) (arity (s .words) h) o (n .positions) (sym takes₃) (le-refl _) in
+      let part : Part s₃ (arity (s .words) h) (arity (s .words) h) t = occurrence-part (arity (s .words) h) (arity (s .words) h) o (n .positions) (sym takes₃) (le-refl _) in
       record {
-        kept = settle-kept (arity (s .words) h) h t k₃ (omega arith) (tag-same (s .words) (s₃ .words) (s .used) (legal i) (k₃ .same) h lo ∙ n .is) (o .root .below) (o .root .term) (rw old scope);
+        kept = settle-kept (arity (s .words) h) h t k₃ (omega arith) (tag-same (s .words) (s₃ .words) (s .used) (legal i) (k₃ .same) h lo ∙ n .is) (rw old part);
         below = omega arith;
         is = tag₃;
         takes = takes₃;

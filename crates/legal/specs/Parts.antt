@@ -18,52 +18,25 @@ use Rattle.promise.specs.Reading.{Same}
 use Rattle.legal.specs.Stay.{term-same}
 use Rattle.legal.specs.Cells.{some-terms}
 use Rattle.legal.specs.Reading.{every-all, all-both}
-use Rattle.legal.specs.Scope.{Scopes, scopes-more, scopes-same}
+use Rattle.legal.specs.Scope.{Part, part-on}
 use Rattle.legal.specs.Sane.{Sane, legal, Kept, kept-refl, kept-trans, added, added-same}
 use Rattle.legal.specs.Added.{Root, Chain, no-chain, root-kept, chain-since, cell-added}
 use Rattle.legal.specs.Ran.{Ran, ran-bind, ran-goes, ran-push}
 use Rattle.legal.specs.Places.{Leads}
 
--- a term of the store in scope under b variables
-pub record Part (s : Store) (b r : ℕ) : Type 0 where
-  pub below : r < s .used
-  pub term : isTerm (s .words) r ≡ true
-  pub cap : ℕ
-  pub scope : Scopes (s .words) cap b r
-
-part-kept : {R : ℕ} {s s₁ : Store} {b : ℕ} (x : ℕ) → Sane R s → Kept R s s₁ → Part s b x → Part s₁ b x
-part-kept {s = s} {s₁} {b} x i k p =
-    let l = p .below in
-    let g = k .grown in
-    record {
-      below = omega arith;
-      term = rw (term-same (s .words) (s₁ .words) (s .used) (legal i) (k .same) x l) (p .term);
-      cap = p .cap;
-      scope = scopes-same (s .words) (s₁ .words) (s .used) (legal i) (k .same) (p .cap) b x l (p .term) (p .scope);
-    }
-
--- in later words, with a higher bound
-pub scope-on : {R : ℕ} {s : Store} (ws₁ : List ℕ) (c k b x : ℕ) → Sane R s → Same (s .used) (s .words) ws₁ → x < s .used → isTerm (s .words) x ≡ true → c ≤ k → Scopes (s .words) c b x → Scopes ws₁ k b x
-scope-on {s = s} ws₁ c k b x i on lt t le h = scopes-more ws₁ c k b x le (scopes-same (s .words) ws₁ (s .used) (legal i) on c b x lt t h)
-
 -- a term written under B variables: no hole in it stands under more than these and the records written
 pub record Wrote (R B : ℕ) (s s₁ : Store) (x : ℕ) : Type 0 where
   pub kept : Kept R s s₁
   pub root : Root s s₁ x
-  pub scope : Scopes (s₁ .words) (B + (s₁ .used - s .used)) B x
+  pub part : Part s₁ (B + (s₁ .used - s .used)) B x
 
 -- a list of such terms
 pub record WroteList (R B k : ℕ) (s s₁ : Store) (l : ℕ) : Type 0 where
   pub kept : Kept R s s₁
   pub records : List ℕ
   pub chain : Chain some-terms s s₁ l records
-  pub scopes : All (Scopes (s₁ .words) (B + (s₁ .used - s .used)) B) records
+  pub parts : All (Part s₁ (B + (s₁ .used - s .used)) B) records
   pub count : length records ≡ k
-
-pub chain-terms : {R : ℕ} {s₀ s : Store} {l : ℕ} (xs : List ℕ) → Sane R s → Chain some-terms s₀ s l xs → All (λ x. (x < s .used) × (isTerm (s .words) x ≡ true)) xs
-chain-terms {s = s} {l} xs i c =
-    let e = elements-every (s .words) (s .used) (i .sound) (isTerm (s .words)) (follows-term (s .words) (s .used) (i .sound)) (s .used) l (le-refl _) (c .begins) in
-    every-all (λ x. (x < s .used) × (isTerm (s .words) x ≡ true)) xs (rw (c .is) at e)
 
 -- variables below B and as many more as records were written are below 4,096. While a term is written, a variable under lambdas that are
 -- still to be written can be higher than there are records; where the whole of it is written, this holds
@@ -74,14 +47,16 @@ module _ (R : ℕ) (Fits : Map → ℕ → Type 0) where
   -- what a writer asks at a map from b variables to T, under d lambdas
   pub record Source (m : Map) (T b d r : ℕ) (s : Store) : Type 0 where
     pub sane : Sane R s
-    pub part : Part s (b + d) r
+    pub cap : ℕ
+    pub part : Part s cap (b + d) r
     pub leads : Leads m T
     pub fits : Fits m b
 
   -- the same of a list of terms
   pub record Sources (m : Map) (T b d : ℕ) (xs : List ℕ) (s : Store) : Type 0 where
     pub sane : Sane R s
-    pub parts : All (Part s (b + d)) xs
+    pub cap : ℕ
+    pub parts : All (Part s cap (b + d)) xs
     pub short : length xs ≤ 16
     pub leads : Leads m T
     pub fits : Fits m b
@@ -100,10 +75,11 @@ module _ (R : ℕ) (Fits : Map → ℕ → Type 0) where
         → ((T b : ℕ) → Sources m T b d xs s₁ → Small (T + d) s₁ s₂ → WroteList R (T + d) (length xs) s₁ s₂ l)
         → Sources m T b d (x ∷ xs) s → Small (T + d) s (added s₂ CE y l) → WroteList R (T + d) (suc (length xs)) s (added s₂ CE y l) (s₂ .used)
     all-wrote T b x xs s s₁ y s₂ l g₁ g₂ lt p q i c =
-        let w₁ = p T b (record { sane = i .sane; part = i .parts .0; leads = i .leads; fits = i .fits }) (omega arith) in
+        let w₁ = p T b (record { sane = i .sane; cap = i .cap; part = i .parts .0; leads = i .leads; fits = i .fits }) (omega arith) in
         let i₁ = w₁ .kept .sane in
         let sh = i .short in
-        let w₂ = q T b (record { sane = i₁; parts = all-map (Part s (b + d)) (Part s₁ (b + d)) (λ z j. part-kept z (i .sane) (w₁ .kept) j) xs (i .parts .1); short = omega arith; leads = i .leads; fits = i .fits }) (omega arith) in
+        let parts = all-map (Part s (i .cap) (b + d)) (Part s₁ (i .cap) (b + d)) (λ z h. part-on (i .cap) (i .cap) (b + d) z (legal (i .sane)) (w₁ .kept .same) g₁ (le-refl _) h) xs (i .parts .1) in
+        let w₂ = q T b (record { sane = i₁; cap = i .cap; parts = parts; short = omega arith; leads = i .leads; fits = i .fits }) (omega arith) in
         let k₂ = kept-trans (w₁ .kept) (w₂ .kept) in
         let i₂ = k₂ .sane in
         let r₂ = root-kept y i₁ (w₂ .kept) (w₁ .root) in
@@ -111,23 +87,24 @@ module _ (R : ℕ) (Fits : Map → ℕ → Type 0) where
         let z = cell-added k₂ lt some-terms y l (w₂ .records) (r₂ .term) (r₂ .below) (chain-since g₁ (w₂ .chain)) (λ t. r₂) (omega arith) in
         let on = added-same CE y l i₂ lt in
         let B = T + d in
+        let c₁ = B + (s₁ .used - s .used) in
+        let p₂ : Part s₂ c₁ B y = part-on c₁ c₁ B y (legal i₁) (w₂ .kept .same) g₂ (le-refl _) (w₁ .part) in
+        let c₂ = B + (s₂ .used - s₁ .used) in
         let c₃ = B + (s₂ .used + 1 - s .used) in
         record {
           kept = z .0;
           records = y ∷ w₂ .records;
           chain = z .1;
-          scopes = (
-            scope-on (added s₂ CE y l .words) (B + (s₁ .used - s .used)) c₃ B y i₂ on (r₂ .below) (r₂ .term) (omega arith)
-            (scopes-same (s₁ .words) (s₂ .words) (s₁ .used) (legal i₁) (w₂ .kept .same) (B + (s₁ .used - s .used)) B y (w₁ .root .below) (w₁ .root .term) (w₁ .scope)),
-            all-both (λ x. (x < s₂ .used) × (isTerm (s₂ .words) x ≡ true)) (Scopes (s₂ .words) (B + (s₂ .used - s₁ .used)) B) (Scopes (added s₂ CE y l .words) c₃ B) (w₂ .records)
-            (λ x t h. scope-on (added s₂ CE y l .words) (B + (s₂ .used - s₁ .used)) c₃ B x i₂ on (t .0) (t .1) (omega arith) h) (chain-terms (w₂ .records) i₂ (w₂ .chain)) (w₂ .scopes),
+          parts = (
+            part-on c₁ c₃ B y (legal i₂) on (omega arith) (omega arith) p₂,
+            all-map (Part s₂ c₂ B) (Part (added s₂ CE y l) c₃ B) (λ x h. part-on c₂ c₃ B x (legal i₂) on (omega arith) (omega arith) h) (w₂ .records) (w₂ .parts),
           );
           count = omega arith;
         }
 
     pub all-ran : (xs : List ℕ) (s : Store) → Ran R s (λ s₁ l. (T b : ℕ) → Sources m T b d xs s → Small (T + d) s s₁ → WroteList R (T + d) (length xs) s s₁ l) (writeAll w R m d xs s)
     unfolding writeAll
-    all-ran [] s = ran-goes R (λ T b i c. record { kept = kept-refl (i .sane); records = []; chain = no-chain some-terms s s; scopes = tt; count = refl })
+    all-ran [] s = ran-goes R (λ T b i c. record { kept = kept-refl (i .sane); records = []; chain = no-chain some-terms s s; parts = tt; count = refl })
     all-ran (x ∷ xs) s =
         ran-bind R _ (writes m d x s) λ s₁ y b₁ p.
         ran-bind R _ (all-ran xs s₁) λ s₂ l b₂ q.

@@ -14,42 +14,44 @@ use Rattle.rules.specs.Store.{Store}
 use Rattle.rules.specs.Map.{Map, placeOf}
 use Rattle.rules.specs.Rewrite.{Writer, writeTerm}
 use Rattle.laws.specs.Sound.{lambda-field, constant-head}
+use Rattle.invariants.specs.Grow.{all-map}
 use Rattle.invariants.specs.Forms.{form-6, form-7, form-8}
 use Rattle.promise.specs.Tests.{tag-is as tag-of}
 use Rattle.legal.specs.Stay.{tag-same, elements-same}
 use Rattle.legal.specs.Reading.{term-tag, all-both, arguments-terms, few-arguments}
-use Rattle.legal.specs.Scope.{Scopes, scope-level, level-scope}
+use Rattle.legal.specs.Scope.{Level, Scopes, scope-level, level-scope, Part, part-on}
 use Rattle.legal.specs.Sane.{legal, added, added-same, tag-is, a-is, b-is}
-use Rattle.legal.specs.Added.{lambda-added, constant-added, variable-added}
+use Rattle.legal.specs.Added.{Root, lambda-added, constant-added, variable-added}
 use Rattle.legal.specs.Ran.{Ran, ran-bind, ran-map, ran-fail, ran-push}
 use Rattle.legal.specs.Places.{place-below}
-use Rattle.legal.specs.Parts.{Part, scope-on, Wrote, WroteList, chain-terms, Source, Sources, Small, Writes, WritesHole, all-ran}
+use Rattle.legal.specs.Parts.{Wrote, WroteList, Source, Sources, Small, Writes, WritesHole, all-ran}
 
 form-other : (ws : List ℕ) (r : ℕ) → (tag ws r ≡ LA → ⊥) → (tag ws r ≡ CA → ⊥) → (tag ws r ≡ VA → ⊥) → form ws r ≡ hole
 unfolding form has
 form-other ws r a b c = rw (ne-eqb _ _ a, form, ne-eqb _ _ b, ne-eqb _ _ c)
 
 -- a constant or variable over a list in scope is in scope
-head-scope : {R B k : ℕ} {s s₁ : Store} (t a l : ℕ) → WroteList R B k s s₁ l → s₁ .used < R → 7 ≤ t → t ≤ 8 → (t ≡ VA → a < B) → Scopes (added s₁ t a l .words) (B + (s₁ .used + 1 - s .used)) B (s₁ .used)
+head-part : {R B k : ℕ} {s s₁ : Store} (t a l : ℕ) → WroteList R B k s s₁ l → s₁ .used < R → 7 ≤ t → t ≤ 8 → (t ≡ VA → a < B) → Root s (added s₁ t a l) (s₁ .used) → Part (added s₁ t a l) (B + (s₁ .used + 1 - s .used)) B (s₁ .used)
 unfolding arguments
-head-scope {B = B} {s = s} {s₁} t a l w lt lo hi low =
+head-part {B = B} {s = s} {s₁} t a l w lt lo hi low r =
     let i = w .kept .sane in
     let g = w .kept .grown in
     let e = tag-is t a l i lt in
     let on = added-same t a l i lt in
     let els = elements-same (s₁ .words) (added s₁ t a l .words) (s₁ .used) (legal i) on l (λ z. let q = w .chain .begins z in (q .0, q .1)) in
-    level-scope (added s₁ t a l .words) (B + (s₁ .used + 1 - s .used)) B (s₁ .used)
-    (record {
+    let c = B + (s₁ .used - s .used) in
+    let c₁ = B + (s₁ .used + 1 - s .used) in
+    let level : Level (Scopes (added s₁ t a l .words) c₁) (added s₁ t a l .words) c₁ B (s₁ .used) = record {
       body = λ z. absurd (omega arith);
       number = λ z. rw (a-is t a l i lt) (low (sym e ∙ z));
       parts = λ x y.
           rw (b-is t a l i lt, els, w .chain .is)
-          (all-both (λ x. (x < s₁ .used) × (isTerm (s₁ .words) x ≡ true)) (Scopes (s₁ .words) (B + (s₁ .used - s .used)) B) (Scopes (added s₁ t a l .words) (B + (s₁ .used + 1 - s .used)) B) (w .records)
-          (λ x p h. scope-on (added s₁ t a l .words) (B + (s₁ .used - s .used)) (B + (s₁ .used + 1 - s .used)) B x i on (p .0) (p .1) (omega arith) h) (chain-terms (w .records) i (w .chain)) (w .scopes));
+          (all-map (Part s₁ c B) (Scopes (added s₁ t a l .words) c₁ B) (λ x p. part-on {s₁ = added s₁ t a l} c c₁ B x (legal i) on (omega arith) (omega arith) p .scope) (w .records) (w .parts));
       names = λ z. absurd (omega arith);
       count = λ z. absurd (omega arith);
       cap = λ z. absurd (omega arith);
-    })
+    } in
+    record { below = r .below; term = r .term; scope = level-scope (added s₁ t a l .words) c₁ B (s₁ .used) level }
 
 module _ (R : ℕ) (Fits : Map → ℕ → Type 0) (onHole w : Writer) (at : WritesHole R Fits onHole) (writes : Writes R Fits w) (m : Map) (d r : ℕ) (s : Store) where
   abbrev Says : Store → ℕ → Type 0
@@ -62,27 +64,23 @@ module _ (R : ℕ) (Fits : Map → ℕ → Type 0) (onHole w : Writer) (at : Wri
       let a₀ = a .0 in
       let lr = i .part .below in
       let z : b + d + 1 ≡ b + (d + 1) = omega arith in
-      let part : Part s (b + (d + 1)) (fieldA (s .words) r) = record { below = omega arith; term = a .1; cap = i .part .cap; scope = rw z at (scope-level (s .words) (i .part .cap) (b + d) r (i .part .scope) .body e) } in
-      let w₁ = p T b (record { sane = i .sane; part = part; leads = i .leads; fits = i .fits }) (omega arith) in
+      let inner : Part s (i .cap) (b + (d + 1)) (fieldA (s .words) r) = record { below = omega arith; term = a .1; scope = rw z at (scope-level (s .words) (i .cap) (b + d) r (i .part .scope) .body e) } in
+      let w₁ = p T b (record { sane = i .sane; cap = i .cap; part = inner; leads = i .leads; fits = i .fits }) (omega arith) in
       let k = lambda-added (w₁ .kept) lt y (w₁ .root) in
       let i₁ = w₁ .kept .sane in
       let t = tag-is LA y 0 i₁ lt in
       let B : T + (d + 1) ≡ T + d + 1 = omega arith in
-      let body : Scopes (added s₁ LA y 0 .words) (T + d + (s₁ .used + 1 - s .used)) (T + (d + 1)) y =
-          scope-on (added s₁ LA y 0 .words) (T + (d + 1) + (s₁ .used - s .used)) (T + d + (s₁ .used + 1 - s .used)) (T + (d + 1)) y i₁ (added-same LA y 0 i₁ lt) (w₁ .root .below) (w₁ .root .term) (omega arith) (w₁ .scope) in
-      record {
-        kept = k .0;
-        root = k .1;
-        scope = level-scope (added s₁ LA y 0 .words) (T + d + (s₁ .used + 1 - s .used)) (T + d) (s₁ .used)
-            (record {
-              body = λ q. rw (a-is LA y 0 i₁ lt) (rw B at body);
-              number = λ q. absurd (omega arith);
-              parts = λ lo hi. absurd (omega arith);
-              names = λ q. absurd (omega arith);
-              count = λ q. absurd (omega arith);
-              cap = λ q. absurd (omega arith);
-            });
-      }
+      let c₁ = T + d + (s₁ .used + 1 - s .used) in
+      let body = part-on {s₁ = added s₁ LA y 0} (T + (d + 1) + (s₁ .used - s .used)) c₁ (T + (d + 1)) y (legal i₁) (added-same LA y 0 i₁ lt) (omega arith) (omega arith) (w₁ .part) .scope in
+      let level : Level (Scopes (added s₁ LA y 0 .words) c₁) (added s₁ LA y 0 .words) c₁ (T + d) (s₁ .used) = record {
+        body = λ q. rw (a-is LA y 0 i₁ lt) (rw B at body);
+        number = λ q. absurd (omega arith);
+        parts = λ lo hi. absurd (omega arith);
+        names = λ q. absurd (omega arith);
+        count = λ q. absurd (omega arith);
+        cap = λ q. absurd (omega arith);
+      } in
+      record { kept = k .0; root = k .1; part = record { below = k .1 .below; term = k .1 .term; scope = level-scope (added s₁ LA y 0 .words) c₁ (T + d) (s₁ .used) level } }
 
   -- the arguments
   sources : (T b : ℕ) → Source R Fits m T b d r s → 7 ≤ tag (s .words) r → tag (s .words) r ≤ 8 → Sources R Fits m T b d (arguments (s .words) r) s
@@ -91,9 +89,10 @@ module _ (R : ℕ) (Fits : Map → ℕ → Type 0) (onHole w : Writer) (at : Wri
       let lr = i .part .below in
       record {
         sane = i .sane;
-        parts = all-both (λ x. (x < r) × (isTerm (s .words) x ≡ true)) (Scopes (s .words) (i .part .cap) (b + d)) (Part s (b + d)) (arguments (s .words) r)
-            (λ x p h. let l = p .0 in record { below = omega arith; term = p .1; cap = i .part .cap; scope = h })
-            (arguments-terms (s .words) (s .used) g r lr lo (omega arith)) (scope-level (s .words) (i .part .cap) (b + d) r (i .part .scope) .parts lo hi);
+        cap = i .cap;
+        parts = all-both (λ x. (x < r) × (isTerm (s .words) x ≡ true)) (Scopes (s .words) (i .cap) (b + d)) (Part s (i .cap) (b + d)) (arguments (s .words) r)
+            (λ x p h. let l = p .0 in record { below = omega arith; term = p .1; scope = h })
+            (arguments-terms (s .words) (s .used) g r lr lo (omega arith)) (scope-level (s .words) (i .cap) (b + d) r (i .part .scope) .parts lo hi);
         short = few-arguments (s .words) (s .used) g r lr lo (omega arith);
         leads = i .leads;
         fits = i .fits;
@@ -109,7 +108,7 @@ module _ (R : ℕ) (Fits : Map → ℕ → Type 0) (onHole w : Writer) (at : Wri
       let lr = i .part .below in
       let k = constant-added (v .kept) lt (fieldA (s .words) r) l (v .records) (omega arith)
           (tag-same (s .words) (s₁ .words) (s .used) (legal (i .sane)) (v .kept .same) (fieldA (s .words) r) (omega arith) ∙ tag-of (s .words) (fieldA (s .words) r) KO (a .1)) (v .chain) in
-      record { kept = k .0; root = k .1; scope = head-scope CA (fieldA (s .words) r) l v lt (omega arith) (omega arith) (λ z. absurd (omega arith)) }
+      record { kept = k .0; root = k .1; part = head-part CA (fieldA (s .words) r) l v lt (omega arith) (omega arith) (λ z. absurd (omega arith)) (k .1) }
 
   variable-wrote : (s₁ : Store) (x l : ℕ) → s₁ .used < R → s .used ≤ s₁ .used → tag (s .words) r ≡ VA → placeOf m d (fieldA (s .words) r) ≡ At x
       → ((T b : ℕ) → Sources R Fits m T b d (arguments (s .words) r) s → Small (T + d) s s₁ → WroteList R (T + d) (length (arguments (s .words) r)) s s₁ l)
@@ -118,7 +117,7 @@ module _ (R : ℕ) (Fits : Map → ℕ → Type 0) (onHole w : Writer) (at : Wri
       let v = p T b (sources T b i (omega arith) (omega arith)) (omega arith) in
       let low = place-below m d T (fieldA (s .words) r) x (i .leads) at in
       let k = variable-added (v .kept) lt x l (v .records) (omega arith) (v .chain) in
-      record { kept = k .0; root = k .1; scope = head-scope VA x l v lt (omega arith) (omega arith) (λ z. low) }
+      record { kept = k .0; root = k .1; part = head-part VA x l v lt (omega arith) (omega arith) (λ z. low) (k .1) }
 
   -- one level of a term
   pub term-ran : Ran R s Says (writeTerm onHole w R (s .words) m d r s)

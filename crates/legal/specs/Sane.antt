@@ -18,19 +18,17 @@ use Rattle.invariants.specs.Grow.{all-map}
 use Rattle.invariants.specs.Push.{put-length, put-kept, put-tag, put-a, put-b}
 use Rattle.promise.specs.Reading.{Same, same-refl, same-trans}
 use Rattle.legal.specs.Uses.{uses-low, uses-same}
-use Rattle.legal.specs.Stay.{tag-same, term-same, sound-same}
+use Rattle.legal.specs.Stay.{tag-same, sound-same}
 use Rattle.legal.specs.Right.{Free, Right, right-keeps}
 use Rattle.legal.specs.Reading.{arity, arity-same}
-use Rattle.legal.specs.Scope.{Scopes, scopes-same}
+use Rattle.legal.specs.Scope.{Part, part-on}
 
 -- hole h is solved by a term in scope under its context
 pub record Solution (s : Store) (h : ℕ) : Type 0 where
   pub hole : h < s .used
   pub is : tag (s .words) h ≡ HO
-  pub below : getD (s .solutions) h NONE < s .used
-  pub term : isTerm (s .words) (getD (s .solutions) h NONE) ≡ true
   pub cap : ℕ
-  pub scope : Scopes (s .words) cap (arity (s .words) h) (getD (s .solutions) h NONE)
+  pub part : Part s cap (arity (s .words) h) (getD (s .solutions) h NONE)
 
 pub record Sane (R : ℕ) (s : Store) : Type 0 where
   pub room : 4 * R ≤ length (s .words)
@@ -135,14 +133,11 @@ module _ {R : ℕ} {s : Store} (t a b : ℕ) (i : Sane R s) (lt : s .used < R) w
       solution : (h : ℕ) → Solution s h → Solution (added s t a b) h
       solution h o =
           let x = o .hole in
-          let y = o .below in
           record {
             hole = omega arith;
             is = tag-same (s .words) ws₁ (s .used) (legal i) added-same h x ∙ o .is;
-            below = omega arith;
-            term = rw (term-same (s .words) ws₁ (s .used) (legal i) added-same (getD (s .solutions) h NONE) y) (o .term);
             cap = o .cap;
-            scope = rw (arity-same (s .words) (s .used) (legal i) ws₁ added-same h x (o .is)) (scopes-same (s .words) ws₁ (s .used) (legal i) added-same (o .cap) (arity (s .words) h) (getD (s .solutions) h NONE) y (o .term) (o .scope));
+            part = rw (arity-same (s .words) (s .used) (legal i) ws₁ added-same h x (o .is)) (part-on (o .cap) (o .cap) (arity (s .words) h) (getD (s .solutions) h NONE) (legal i) added-same (omega arith) (le-refl _) (o .part));
           }
 
       own : (j : ℕ) → s₀ .used ≤ j → j < s .used + 1 → Dec (j < s .used) → All (λ x. s₀ .used ≤ x) (uses ws₁ j)

@@ -7,13 +7,14 @@ use mathlib.Core.Bool.{true}
 use native.Mathlib.Omega.{arith}
 use lib.ListN.{length}
 use Rattle.rules.specs.Words.{HO, LA, VA, HA, tag, fieldA, isTerm, arguments, variables}
+use Rattle.rules.specs.Store.{Store}
 use Rattle.laws.specs.Sound.{lambda-field, hole-head}
 use Rattle.laws.specs.Members.{Legal}
 use Rattle.invariants.specs.Floor.{All}
 use Rattle.invariants.specs.Grow.{all-map}
 use Rattle.promise.specs.Tests.{tag-is}
 use Rattle.promise.specs.Reading.{Same}
-use Rattle.legal.specs.Stay.{tag-same, a-same}
+use Rattle.legal.specs.Stay.{tag-same, a-same, term-same}
 use Rattle.legal.specs.Reading.{all-both, arity, arguments-terms, arguments-same, variables-same, arity-same}
 
 -- one level of a term
@@ -74,7 +75,7 @@ scoped-more (suc f) ws c k b x le h =
       cap = λ e. let z = h .cap e in omega arith;
     }
 
-pub scopes-more : (ws : List ℕ) (c k b x : ℕ) → c ≤ k → Scopes ws c b x → Scopes ws k b x
+scopes-more : (ws : List ℕ) (c k b x : ℕ) → c ≤ k → Scopes ws c b x → Scopes ws k b x
 scopes-more ws c k b x le h f = scoped-more f ws c k b x le (h f)
 
 -- a term in scope stays so while the words of the records stay
@@ -102,5 +103,21 @@ module _ (ws ws₁ : List ℕ) (n : ℕ) (t : Legal ws n) (s : Same n ws ws₁) 
         cap = λ z. h .cap (sym e ∙ z);
       }
 
-  pub scopes-same : (c b x : ℕ) → x < n → isTerm ws x ≡ true → Scopes ws c b x → Scopes ws₁ c b x
+  scopes-same : (c b x : ℕ) → x < n → isTerm ws x ≡ true → Scopes ws c b x → Scopes ws₁ c b x
   scopes-same c b x lt i h f = scoped-same f c b x lt i (h f)
+
+-- a term of the store, in scope under b variables
+pub record Part (s : Store) (c b x : ℕ) : Type 0 where
+  pub below : x < s .used
+  pub term : isTerm (s .words) x ≡ true
+  pub scope : Scopes (s .words) c b x
+
+-- it stays one where the store grows, with a higher bound
+pub part-on : {s s₁ : Store} (c k b x : ℕ) → Legal (s .words) (s .used) → Same (s .used) (s .words) (s₁ .words) → s .used ≤ s₁ .used → c ≤ k → Part s c b x → Part s₁ k b x
+part-on {s} {s₁} c k b x t on g le p =
+    let l = p .below in
+    record {
+      below = omega arith;
+      term = rw (term-same (s .words) (s₁ .words) (s .used) t on x l) (p .term);
+      scope = scopes-more (s₁ .words) c k b x le (scopes-same (s .words) (s₁ .words) (s .used) t on c b x l (p .term) (p .scope));
+    }

@@ -65,12 +65,8 @@ module _ (ws ss : List ℕ) (n : ℕ) (a : Admitted ws ss n) where
   unfolding start
   side x t A r y e =
       let l = reads-below r in
-      record {
-        below = l;
-        term = rw (term-same ws (s .words) n given start-same x l) e;
-        under = 0;
-        scope = typed-scope (s .words) n n (constants ws n) (holes ws n) (start-holds ws ss n a .declared) (reads-later start-same (le-refl n) r) y (omega arith);
-      }
+      let scope = typed-scope (s .words) n n (constants ws n) (holes ws n) (start-holds ws ss n a .declared) (reads-later start-same (le-refl n) r) y (omega arith) in
+      record { under = 0; part = record { below = l; term = rw (term-same ws (s .words) n given start-same x l) e; scope = scope } }
 
   start-sides : All (Sides s) (equations (s .words) n)
   unfolding equations

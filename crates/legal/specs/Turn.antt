@@ -57,16 +57,17 @@ module _ (R C l r : ℕ) (q : List Pair) (s : Store) (i : Sane R s) (hl : Side s
 
   body-side : (x : ℕ) → Side s x → tag (s .words) x ≡ LA → Side s (fieldA (s .words) x)
   body-side x h e =
-      let p = lambda-field (s .words) (s .used) (i .sound) x (h .below) e in
+      let p = lambda-field (s .words) (s .used) (i .sound) x (h .part .below) e in
       let l = p .0 in
-      let b = h .below in
-      record { below = omega arith; term = p .1; under = h .under + 1; scope = scope-level (s .words) (s .used) (h .under) x (h .scope) .body e }
+      let b = h .part .below in
+      record { under = h .under + 1; part = record { below = omega arith; term = p .1; scope = scope-level (s .words) (s .used) (h .under) x (h .part .scope) .body e } }
 
   argument-sides : (x : ℕ) → Side s x → 7 ≤ tag (s .words) x → tag (s .words) x ≤ 8 → All (Side s) (arguments (s .words) x)
   argument-sides x h lo hi =
+      let b = h .part .below in
       all-both (λ y. (y < x) × (isTerm (s .words) y ≡ true)) (Scopes (s .words) (s .used) (h .under)) (Side s) (arguments (s .words) x)
-      (λ y p k. let l = p .0 in let b = h .below in record { below = omega arith; term = p .1; under = h .under; scope = k })
-      (arguments-terms (s .words) (s .used) (legal i) x (h .below) lo (omega arith)) (scope-level (s .words) (s .used) (h .under) x (h .scope) .parts lo hi)
+      (λ y p k. let l = p .0 in record { under = h .under; part = record { below = omega arith; term = p .1; scope = k } })
+      (arguments-terms (s .words) (s .used) (legal i) x b lo (omega arith)) (scope-level (s .words) (s .used) (h .under) x (h .part .scope) .parts lo hi)
 
   -- 3: the arguments
   arguments-join : All (Side s) (arguments (s .words) l) → All (Side s) (arguments (s .words) r)
@@ -92,7 +93,7 @@ module _ (R C l r : ℕ) (q : List Pair) (s : Store) (i : Sane R s) (hl : Side s
       go : (b : Bool) → eqb (length ks) (length (variables (s .words) l)) ≡ b → Ran R s Stepped (sameHole R q l r s)
       go true e = rw (e, sameHole) (ran-goes R (i, hq))
       go false e =
-          let h = head-of (s .used) (hl .under) l i (hl .below) nine (hl .scope) in
+          let h = head-of (s .used) (hl .under) l i (hl .part .below) nine (hl .part .scope) in
           let a = agreeing-few 0 (variables (s .words) l) (variables (s .words) r) in
           let a₀ = a .0 in
           let f = h .few in

@@ -17,14 +17,14 @@ use Rattle.invariants.specs.Grow.{all-map}
 use Rattle.promise.specs.Outcomes.{ended, unsaid}
 use Rattle.legal.specs.Stay.{tag-same}
 use Rattle.legal.specs.Reading.{arity, arity-same, arity-low, arity-few}
-use Rattle.legal.specs.Scope.{Scopes}
+use Rattle.legal.specs.Scope.{Part}
 use Rattle.legal.specs.Sane.{Sane, legal, Kept, kept-trans}
 use Rattle.legal.specs.Added.{root-since}
-use Rattle.legal.specs.Narrow.{occurrence-scope, settle-kept, narrow-ran}
+use Rattle.legal.specs.Narrow.{occurrence-part, settle-kept, narrow-ran}
 use Rattle.legal.specs.Lists.{occurrence-ran}
 use Rattle.legal.specs.Ran.{Between, Ran, ran-bind, ran-map, ran-fail}
 use Rattle.legal.specs.Places.{Followed, followed, positions-lead}
-use Rattle.legal.specs.Parts.{Part, Wrote, Source, Small, Writes, WritesHole}
+use Rattle.legal.specs.Parts.{Wrote, Source, Small, Writes, WritesHole}
 use Rattle.legal.specs.Rewriting.{term-ran}
 use Rattle.legal.specs.Copy.{head-of, Side, solution-of}
 
@@ -62,7 +62,7 @@ module _ (R : ℕ) where
           let t = q .takes in
           let o = p (q .sane) (q .below) (q .is) (all-map (λ w. w < B) (λ w. w < 4096) (λ w z. omega arith) (targets m) (q .map .to)) (omega (arith, n)) in
           let a = arity-same (s .words) (s .used) (legal (q .sane)) (s₁ .words) (o .kept .same) h (q .below) (q .is) in
-          record { kept = o .kept; root = o .root; scope = occurrence-scope (B + (s₁ .used - s .used)) B o (q .map .to) (n ∙ e ∙ t ∙ sym a) (omega arith) })
+          record { kept = o .kept; root = o .root; part = occurrence-part (B + (s₁ .used - s .used)) B o (q .map .to) (n ∙ e ∙ t ∙ sym a) (omega arith) })
       go (no e) =
           rw (ne-eqb _ _ e, keepPlaced)
           (ran-bind R _ (narrow-ran R h (sources m) s) λ s₁ new b₁ p₁.
@@ -73,7 +73,7 @@ module _ (R : ℕ) where
           let g₁ = w .kept .grown in
           let o = p₂ (w .kept .sane) (w .below) (w .is) (all-map (λ w. w < B) (λ w. w < 4096) (λ w z. omega arith) (targets m) (q .map .to)) (omega (arith, n)) in
           let a = arity-same (s₁ .words) (s₁ .used) (legal (w .kept .sane)) (s₂ .words) (o .kept .same) new (w .below) (w .is) in
-          record { kept = kept-trans (w .kept) (o .kept); root = root-since x g₁ (o .root); scope = occurrence-scope (B + (s₂ .used - s .used)) B o (q .map .to) (n ∙ sym n₁ ∙ sym (w .takes) ∙ sym a) (omega arith) })
+          record { kept = kept-trans (w .kept) (o .kept); root = root-since x g₁ (o .root); part = occurrence-part (B + (s₂ .used - s .used)) B o (q .map .to) (n ∙ sym n₁ ∙ sym (w .takes) ∙ sym a) (omega arith) })
 
   hole-ran : (u : ℕ) (go : Writer) → Writes R Partial go → WritesHole R Partial (walkHole go R u)
   unfolding walkHole solution
@@ -86,18 +86,17 @@ module _ (R : ℕ) where
           → ((T b : ℕ) → Source R Partial (follow m d 0 (variables (s .words) r)) T b 0 (getD (s .solutions) (fieldA (s .words) r) NONE) s → Small (T + 0) s s₁ → Wrote R (T + 0) s s₁ x)
           → Says s₁ x
       below s₁ x e p T b i nine c =
-          let h = head-of (i .part .cap) (b + d) r (i .sane) (i .part .below) nine (i .part .scope) in
+          let h = head-of (i .cap) (b + d) r (i .sane) (i .part .below) nine (i .part .scope) in
           let o = solution-of (fieldA (s .words) r) (i .sane) (h .below) e in
           let z : arity (s .words) (fieldA (s .words) r) + 0 ≡ arity (s .words) (fieldA (s .words) r) = omega arith in
           let y : T + d + 0 ≡ T + d = omega arith in
-          let part : Part s (arity (s .words) (fieldA (s .words) r) + 0) (getD (s .solutions) (fieldA (s .words) r) NONE) = record { below = o .below; term = o .term; cap = o .cap; scope = rw z (o .scope) } in
-          let w = p (T + d) (arity (s .words) (fieldA (s .words) r)) (record { sane = i .sane; part = part; leads = followed m d T 0 (variables (s .words) r) (i .leads) .leads; fits = tt }) (omega arith) in
+          let w = p (T + d) (arity (s .words) (fieldA (s .words) r)) (record { sane = i .sane; cap = o .cap; part = rw z (o .part); leads = followed m d T 0 (variables (s .words) r) (i .leads) .leads; fits = tt }) (omega arith) in
           rw y at w
 
       kept : (s₁ : Store) (x : ℕ)
           → ((B : ℕ) → Placed R B (fieldA (s .words) r) (length (variables (s .words) r)) (follow m d 0 (variables (s .words) r)) s → Small B s s₁ → Wrote R B s s₁ x) → Says s₁ x
       kept s₁ x p T b i nine c =
-          let h = head-of (i .part .cap) (b + d) r (i .sane) (i .part .below) nine (i .part .scope) in
+          let h = head-of (i .cap) (b + d) r (i .sane) (i .part .below) nine (i .part .scope) in
           p (T + d) (record { sane = i .sane; below = h .below; is = h .is; takes = h .count; map = followed m d T 0 (variables (s .words) r) (i .leads) }) c
 
       at : Dec (fieldA (s .words) r ≡ u) → (b : Bool) → solved s (fieldA (s .words) r) ≡ b → Ran R s Says (walkHole go R u m d r s)
@@ -124,7 +123,7 @@ module _ (R : ℕ) where
           → ((T b : ℕ) → Source R Partial (toPositions 0 (variables (s .words) l)) T b 0 r s → Small (T + 0) s s₁ → Wrote R (T + 0) s s₁ t) → Kept R s (settle (fieldA (s .words) l) t s₁)
       settles s₁ t bt p =
           let u = fieldA (s .words) l in
-          let h = head-of (s .used) (hl .under) l i (hl .below) nine (hl .scope) in
+          let h = head-of (s .used) (hl .under) l i (hl .part .below) nine (hl .part .scope) in
           let hc = h .count in
           let hb = h .below in
           let low = arity-low (s .words) (s .used) (legal i) u hb (h .is) in
@@ -132,9 +131,8 @@ module _ (R : ℕ) where
           let fe = i .few in
           let g = bt .grown in
           let z : hr .under + 0 ≡ hr .under = omega arith in
-          let part : Part s (hr .under + 0) r = record { below = hr .below; term = hr .term; cap = s .used; scope = rw z (hr .scope) } in
-          let w = p (arity (s .words) u) (hr .under) (record { sane = i; part = part; leads = positions-lead 0 (arity (s .words) u) (variables (s .words) l) (omega arith); fits = tt }) (omega arith) in
+          let w = p (arity (s .words) u) (hr .under) (record { sane = i; cap = s .used; part = rw z (hr .part); leads = positions-lead 0 (arity (s .words) u) (variables (s .words) l) (omega arith); fits = tt }) (omega arith) in
           let y : arity (s .words) u + 0 ≡ arity (s .words) u = omega arith in
           let a : arity (s₁ .words) u ≡ arity (s .words) u = arity-same (s .words) (s .used) (legal i) (s₁ .words) (w .kept .same) u hb (h .is) in
-          let scope : Scopes (s₁ .words) (arity (s .words) u + (s₁ .used - s .used)) (arity (s .words) u) t = rw y at (w .scope) in
-          settle-kept (arity (s .words) u + (s₁ .used - s .used)) u t (w .kept) (omega arith) (tag-same (s .words) (s₁ .words) (s .used) (legal i) (w .kept .same) u hb ∙ h .is) (w .root .below) (w .root .term) (rw a scope)
+          let part : Part s₁ (arity (s .words) u + (s₁ .used - s .used)) (arity (s .words) u) t = rw y at (w .part) in
+          settle-kept (arity (s .words) u + (s₁ .used - s .used)) u t (w .kept) (omega arith) (tag-same (s .words) (s₁ .words) (s .used) (legal i) (w .kept .same) u hb ∙ h .is) (rw a part)
