@@ -7,13 +7,13 @@ use native.Mathlib.Omega.{arith}
 use native.Mathlib.Nat.{le-refl}
 use native.Mathlib.Decide.{decLt}
 use lib.ListN.{length}
-use Rattle.rules.specs.Words.{NONE, BT, KO, HO, CE, LA, CA, VA, HA, tag, fieldB, isTerm, elements}
+use Rattle.rules.specs.Words.{NONE, BT, KO, HO, CE, LA, CA, VA, HA, tag, fieldB, fieldC, isTerm, elements}
 use Rattle.rules.specs.Store.{Store}
 use Rattle.laws.specs.Lists.{Cell, Listed, elements-none, elements-cell}
 use Rattle.laws.specs.Members.{Begins, cell}
 use Rattle.invariants.specs.Push.{put-length}
 use Rattle.legal.specs.Stay.{tag-same, term-same, type-same, begins-same, elements-same}
-use Rattle.legal.specs.Right.{Free, lambda-right, constant-right, variable-right, occurrence-right, hole-right}
+use Rattle.legal.specs.Right.{Free, Right, lambda-right, constant-right, variable-right, occurrence-right, hole-right}
 use Rattle.legal.specs.Cells.{Kind, some-types, some-terms, of, cell-right}
 use Rattle.legal.specs.Reading.{term-yes}
 use Rattle.legal.specs.Sane.{Sane, legal, Kept, top-free, free-kept, added, added-same, tag-is, a-is, b-is, c-is, old-sound, free-added, append}
@@ -79,38 +79,44 @@ module _ {R : ℕ} {s₀ s : Store} (k : Kept R s₀ s) (lt : s .used < R) where
   lambda-added y r =
       let a = a-is LA y 0 i lt in
       let k₁ = append LA y 0 i lt s₀ k
-          (lambda-right (added s LA y 0 .words) (s .used) _ (tag-is LA y 0 i lt) (rw a (r .below)) (rw (a, term-same (s .words) (added s LA y 0 .words) (s .used) (legal i) (added-same LA y 0 i lt) y (r .below)) (r .term))
-          (b-is LA y 0 i lt) (c-is LA y 0 i lt) (rw a (counts LA y 0 y (r .new) (r .free)))) in
+      (lambda-right (added s LA y 0 .words) (s .used) _ (tag-is LA y 0 i lt) (rw a (r .below)) (rw (a, term-same (s .words) (added s LA y 0 .words) (s .used) (legal i) (added-same LA y 0 i lt) y (r .below)) (r .term))
+      (b-is LA y 0 i lt) (c-is LA y 0 i lt) (rw a (counts LA y 0 y (r .new) (r .free)))) in
       (k₁, root LA y 0 (omega arith) (omega arith) k₁)
+
+  -- a head over a list
+  applied-added : (t a l : ℕ) (xs : List ℕ) → 7 ≤ t → t ≤ 9 → Chain some-terms s₀ s l xs
+      → ((Q : ℕ → Type 0) → fieldC (added s t a l .words) (s .used) ≡ 0 → Begins (isTerm (added s t a l .words)) (added s t a l .words) (s .used) (fieldB (added s t a l .words) (s .used))
+      → ((fieldB (added s t a l .words) (s .used) ≡ NONE → ⊥) → Q (fieldB (added s t a l .words) (s .used))) → Right (added s t a l .words) (s .used) Q)
+      → Kept R s₀ (added s t a l) × Root s₀ (added s t a l) (s .used)
+  applied-added t a l xs lo hi c right =
+      let e = b-is t a l i lt in
+      let k₁ = append t a l i lt s₀ k (right _ (c-is t a l i lt) (moved some-terms t a l l c _ e) (listed some-terms t a l l c _ e)) in
+      (k₁, root t a l (omega arith) hi k₁)
+
+  -- a record before the one appended has the tag that it had
+  old-tag : (t a l x j : ℕ) → x < s .used → tag (s .words) x ≡ j → tag (added s t a l .words) x ≡ j
+  old-tag t a l x j h e = tag-same (s .words) (added s t a l .words) (s .used) (legal i) (added-same t a l i lt) x h ∙ e
 
   pub constant-added : (a l : ℕ) (xs : List ℕ) → a < s .used → tag (s .words) a ≡ KO → Chain some-terms s₀ s l xs → Kept R s₀ (added s CA a l) × Root s₀ (added s CA a l) (s .used)
   constant-added a l xs h e c =
       let z = a-is CA a l i lt in
-      let k₁ = append CA a l i lt s₀ k
-          (constant-right (added s CA a l .words) (s .used) _ (tag-is CA a l i lt) (rw z h) (rw z (tag-same (s .words) (added s CA a l .words) (s .used) (legal i) (added-same CA a l i lt) a h ∙ e)) (c-is CA a l i lt)
-          (moved some-terms CA a l l c _ (b-is CA a l i lt)) (listed some-terms CA a l l c _ (b-is CA a l i lt))) in
-      (k₁, root CA a l (omega arith) (omega arith) k₁)
+      applied-added CA a l xs (omega arith) (omega arith) c (λ Q. constant-right _ _ Q (tag-is CA a l i lt) (rw z h) (rw z (old-tag CA a l a KO h e)))
 
   pub variable-added : (v l : ℕ) (xs : List ℕ) → v < 4096 → Chain some-terms s₀ s l xs → Kept R s₀ (added s VA v l) × Root s₀ (added s VA v l) (s .used)
   variable-added v l xs h c =
       let z = a-is VA v l i lt in
-      let k₁ = append VA v l i lt s₀ k
-          (variable-right (added s VA v l .words) (s .used) _ (tag-is VA v l i lt) (rw z h) (c-is VA v l i lt) (moved some-terms VA v l l c _ (b-is VA v l i lt)) (listed some-terms VA v l l c _ (b-is VA v l i lt))) in
-      (k₁, root VA v l (omega arith) (omega arith) k₁)
+      applied-added VA v l xs (omega arith) (omega arith) c (λ Q. variable-right _ _ Q (tag-is VA v l i lt) (rw z h))
 
   pub occurrence-added : (a l : ℕ) (xs : List ℕ) → a < s .used → tag (s .words) a ≡ HO → Chain some-terms s₀ s l xs → Kept R s₀ (added s HA a l) × Root s₀ (added s HA a l) (s .used)
   occurrence-added a l xs h e c =
       let z = a-is HA a l i lt in
-      let k₁ = append HA a l i lt s₀ k
-          (occurrence-right (added s HA a l .words) (s .used) _ (tag-is HA a l i lt) (rw z h) (rw z (tag-same (s .words) (added s HA a l .words) (s .used) (legal i) (added-same HA a l i lt) a h ∙ e)) (c-is HA a l i lt)
-          (moved some-terms HA a l l c _ (b-is HA a l i lt)) (listed some-terms HA a l l c _ (b-is HA a l i lt))) in
-      (k₁, root HA a l (omega arith) (omega arith) k₁)
+      applied-added HA a l xs (omega arith) (omega arith) c (λ Q. occurrence-right _ _ Q (tag-is HA a l i lt) (rw z h) (rw z (old-tag HA a l a HO h e)))
 
   pub hole-added : (l b : ℕ) (xs : List ℕ) → Chain some-types s₀ s l xs → b < s .used → tag (s .words) b ≡ BT → Kept R s₀ (added s HO l b)
   hole-added l b xs c h e =
       let z = b-is HO l b i lt in
       append HO l b i lt s₀ k
-      (hole-right (added s HO l b .words) (s .used) _ (tag-is HO l b i lt) (moved some-types HO l b l c _ (a-is HO l b i lt)) (rw z h) (rw z (tag-same (s .words) (added s HO l b .words) (s .used) (legal i) (added-same HO l b i lt) b h ∙ e))
+      (hole-right (added s HO l b .words) (s .used) _ (tag-is HO l b i lt) (moved some-types HO l b l c _ (a-is HO l b i lt)) (rw z h) (rw z (old-tag HO l b b BT h e))
       (c-is HO l b i lt) (listed some-types HO l b l c _ (a-is HO l b i lt)))
 
   -- a cell before a list
@@ -143,11 +149,13 @@ module _ {R : ℕ} {s₀ s : Store} (k : Kept R s₀ s) (lt : s .used < R) where
         let a = a-is CE y l i lt in
         let e : of q ws₁ y ≡ true = rw (kind-same q CE y l i lt y h) is in
         let k₁ = append CE y l i lt s₀ k
-            (cell-right q ws₁ (s .used) _ (tag-is CE y l i lt) (rw a h) (rw a e) (moved q CE y l l c _ (b-is CE y l i lt)) (c-is CE y l i lt) (rw cell-elements (omega arith))
-            (rw a (λ z. let o = r (rw (term-same (s .words) ws₁ (s .used) (legal i) (added-same CE y l i lt) y h) at z) in counts CE y l y (o .new) (o .free))) (listed q CE y l l c _ (b-is CE y l i lt))) in
-        (k₁, record {
-          begins = λ z. (omega arith, tag-is CE y l i lt, rw a e);
-          new = λ z. k .grown;
-          free = λ z. top-free ws₁ (s .used + 1) (s .used) (k₁ .sane .sound) (omega arith);
-          is = cell-elements;
-        })
+        (cell-right q ws₁ (s .used) _ (tag-is CE y l i lt) (rw a h) (rw a e) (moved q CE y l l c _ (b-is CE y l i lt)) (c-is CE y l i lt) (rw cell-elements (omega arith))
+        (rw a (λ z. let o = r (rw (term-same (s .words) ws₁ (s .used) (legal i) (added-same CE y l i lt) y h) at z) in counts CE y l y (o .new) (o .free))) (listed q CE y l l c _ (b-is CE y l i lt))) in (
+          k₁,
+          record {
+            begins = λ z. (omega arith, tag-is CE y l i lt, rw a e);
+            new = λ z. k .grown;
+            free = λ z. top-free ws₁ (s .used + 1) (s .used) (k₁ .sane .sound) (omega arith);
+            is = cell-elements;
+          },
+        )

@@ -4,10 +4,10 @@ use mathlib.Core.Path.{_≡_, refl, sym, _∙_}
 use mathlib.Core.Bool.{Bool, true, false}
 use native.Mathlib.Omega.{arith}
 use native.Mathlib.Nat.{le-refl}
-use lib.ListN.{length, getD, length-map}
+use lib.ListN.{length, length-map}
 use borrow.Author.Tests.{not-true, eqb-false}
 use Rattle.rules.specs.Lists.{both, enough}
-use Rattle.rules.specs.Words.{NONE, HO, HA, tag, fieldA, has, isTerm, variables}
+use Rattle.rules.specs.Words.{HO, HA, tag, fieldA, has, variables}
 use Rattle.rules.specs.Store.{Store, solved, solution}
 use Rattle.rules.specs.Map.{targets, toVariables, follow}
 use Rattle.rules.specs.Rewrite.{keepHole, copy, expand}
@@ -18,7 +18,6 @@ use Rattle.invariants.specs.Grow.{all-map}
 use Rattle.promise.specs.Tests.{tag-is as tag-of}
 use Rattle.promise.specs.Reading.{same-refl}
 use Rattle.promise.specs.Outcomes.{unsaid}
-use Rattle.legal.specs.Stay.{term-same}
 use Rattle.legal.specs.Reading.{arity, arity-same, arity-few}
 use Rattle.legal.specs.Scope.{Scopes, scope-level, Part, part-on}
 use Rattle.legal.specs.Sane.{Solution, Sane, legal, Kept, kept-refl, kept-trans}
@@ -100,7 +99,7 @@ module _ (R : ℕ) (r : ℕ) (s : Store) where
       let fe = i .few in
       let g = bt .grown in
       let w = p (h .under) (arity (s .words) (fieldA (s .words) r))
-          (record { sane = i; cap = o .cap; part = rw z (o .part); leads = variables-lead 0 (h .under) (variables (s .words) r) (v .names nine); fits = rw (← hd .count) (variables-total (variables (s .words) r)) }) (omega arith) in
+      (record { sane = i; cap = o .cap; part = rw z (o .part); leads = variables-lead 0 (h .under) (variables (s .words) r) (v .names nine); fits = rw (← hd .count) (variables-total (variables (s .words) r)) }) (omega arith) in
       (w .kept, record { under = h .under + 0; part = part-on (h .under + 0 + (s₁ .used - s .used)) (s₁ .used) (h .under + 0) t (legal (w .kept .sane)) same-refl (le-refl _) (omega arith) (w .part) })
 
 pub expand-ran : (R f r : ℕ) (s : Store) → Ran R s (λ s₁ x. Sane R s → Side s r → Kept R s s₁ × Side s₁ x) (expand f R r s)

@@ -8,7 +8,7 @@ use native.Mathlib.Nat.{le-refl}
 use native.Mathlib.Decide.{ℕ-discrete}
 use lib.ListN.{length, getD, set, length-set, length-map}
 use lib.Seq.{getD-set-other, getD-set-same}
-use Rattle.rules.specs.Words.{NONE, BT, HO, tag, fieldA, fieldB, isType, isTerm, elements}
+use Rattle.rules.specs.Words.{NONE, BT, HO, tag, fieldA, fieldB, isType, elements}
 use Rattle.rules.specs.Store.{Store, push, settle}
 use Rattle.rules.specs.Walk.{narrow}
 use Rattle.laws.specs.Sound.{hole-base}
@@ -29,15 +29,19 @@ use Rattle.promise.specs.Outcomes.{ended}
 pub occurrence-part : {R : ℕ} {s s₁ : Store} {h x : ℕ} {vs : List ℕ} (c b : ℕ) → Occurrence R s s₁ h x vs → All (λ v. v < b) vs → length vs ≡ arity (s₁ .words) h → b ≤ c → Part s₁ c b x
 occurrence-part {s₁ = s₁} {h} {x} {vs} c b o low count le =
     let e = o .is in
-    record { below = o .root .below; term = o .root .term; scope = level-scope (s₁ .words) c b x
-    (record {
-      body = λ z. absurd (omega arith);
-      number = λ z. absurd (omega arith);
-      parts = λ lo hi. absurd (omega arith);
-      names = λ z. rw (o .names) low;
-      count = λ z. rw (o .names, o .head) count;
-      cap = λ z. le;
-    }) }
+    record {
+      below = o .root .below;
+      term = o .root .term;
+      scope = level-scope (s₁ .words) c b x
+          (record {
+            body = λ z. absurd (omega arith);
+            number = λ z. absurd (omega arith);
+            parts = λ lo hi. absurd (omega arith);
+            names = λ z. rw (o .names) low;
+            count = λ z. rw (o .names, o .head) count;
+            cap = λ z. le;
+          });
+    }
 
 -- a hole is settled by a term in scope under its context
 pub settle-kept : {R : ℕ} {s s₁ : Store} (c h t : ℕ) → Kept R s s₁ → h < s₁ .used → tag (s₁ .words) h ≡ HO → Part s₁ c (arity (s₁ .words) h) t
@@ -103,7 +107,7 @@ module _ (R h : ℕ) (ks : List ℕ) (s : Store) where
       let i = n .sane in
       let lo = n .low in
       let types = all-map (λ x. (x < h) × (isType (s .words) x ≡ true)) (λ x. (x < s .used) × (isType (s .words) x ≡ true)) (λ x q. let z = q .0 in (omega arith, q .1)) (elements (s .words) (fieldA (s .words) h))
-          (context-types (s .words) (s .used) (legal i) h lo (n .is)) in
+      (context-types (s .words) (s .used) (legal i) h lo (n .is)) in
       let fe = n .few in
       let q = p i (picked (λ x. (x < s .used) × (isType (s .words) x ≡ true)) (elements (s .words) (fieldA (s .words) h)) ks types (n .positions)) (simp length-map fe) in
       let k = q .0 in

@@ -2,22 +2,16 @@
 use Prim.Native.Nat.{ℕ, suc, _+_, _-_, _<_, _≤_}
 use mathlib.Core.Path.{_≡_, refl}
 use mathlib.Core.List.{List, [], _∷_}
-use mathlib.Core.Bool.{true}
 use native.Mathlib.Omega.{arith}
 use native.Mathlib.Nat.{le-refl}
 use lib.ListN.{length}
-use Rattle.rules.specs.Words.{CE, HA, tag, isTerm}
+use Rattle.rules.specs.Words.{CE, HA, tag}
 use Rattle.rules.specs.Store.{Store}
 use Rattle.rules.specs.Map.{Map}
 use Rattle.rules.specs.Rewrite.{Writer, writeAll}
-use Rattle.laws.specs.Sound.{follows-term}
-use Rattle.laws.specs.Members.{elements-every}
 use Rattle.invariants.specs.Floor.{All}
 use Rattle.invariants.specs.Grow.{all-map}
-use Rattle.promise.specs.Reading.{Same}
-use Rattle.legal.specs.Stay.{term-same}
 use Rattle.legal.specs.Cells.{some-terms}
-use Rattle.legal.specs.Reading.{every-all, all-both}
 use Rattle.legal.specs.Scope.{Part, part-on}
 use Rattle.legal.specs.Sane.{Sane, legal, Kept, kept-refl, kept-trans, added, added-same}
 use Rattle.legal.specs.Added.{Root, Chain, no-chain, root-kept, chain-since, cell-added}

@@ -107,7 +107,7 @@ module _ (R : ℕ) (Fits : Map → ℕ → Type 0) (onHole w : Writer) (at : Wri
       let a₀ = a .0 in
       let lr = i .part .below in
       let k = constant-added (v .kept) lt (fieldA (s .words) r) l (v .records) (omega arith)
-          (tag-same (s .words) (s₁ .words) (s .used) (legal (i .sane)) (v .kept .same) (fieldA (s .words) r) (omega arith) ∙ tag-of (s .words) (fieldA (s .words) r) KO (a .1)) (v .chain) in
+      (tag-same (s .words) (s₁ .words) (s .used) (legal (i .sane)) (v .kept .same) (fieldA (s .words) r) (omega arith) ∙ tag-of (s .words) (fieldA (s .words) r) KO (a .1)) (v .chain) in
       record { kept = k .0; root = k .1; part = head-part CA (fieldA (s .words) r) l v lt (omega arith) (omega arith) (λ z. absurd (omega arith)) (k .1) }
 
   variable-wrote : (s₁ : Store) (x l : ℕ) → s₁ .used < R → s .used ≤ s₁ .used → tag (s .words) r ≡ VA → placeOf m d (fieldA (s .words) r) ≡ At x

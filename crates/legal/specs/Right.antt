@@ -1,6 +1,6 @@
 -- One record by itself: with lower fields of the right kinds, of which none that counts is in use, it keeps the rules.
 use Prim.Native.Nat.{ℕ, _<_, _≤_}
-use mathlib.Core.Path.{_≡_, refl, sym, ap, _∙_}
+use mathlib.Core.Path.{_≡_, refl, ap, _∙_}
 use mathlib.Core.List.{List, [], _∷_, _++_}
 use mathlib.Core.Bool.{Bool, true, false, not}
 use mathlib.Core.Logic.{_⊎_, inl, inr}
@@ -10,7 +10,8 @@ use lib.Dec.{eqb, leb}
 use borrow.Author.Tests.{leb-true, lt-ltb, eq-eqb, ne-eqb, lt-leb}
 use Rattle.rules.specs.Lists.{both, either, all, any, among, distinct, those, below}
 use Rattle.rules.specs.Words.{NONE, HO, CE, LA, CA, VA, HA, BT, KO, tag, fieldA, fieldB, fieldC, isType, isTerm}
-use Rattle.rules.specs.Records.{Field, Shape, never, nil, any-number, small, type as a-type, base as a-base, constant as a-constant, hole as a-hole, term as a-term, types as some-types, terms as some-terms, element as an-element, rest as a-rest, shapes, shape, fits, shaped, listed, new-type, first-cell, reference, uses, first-use, keeps}
+use Rattle.rules.specs.Records.{Field, Shape, never, nil, any-number, small, type as a-type, base as a-base, constant as a-constant, hole as a-hole, term as a-term, types as some-types, terms as some-terms}
+use Rattle.rules.specs.Records.{element as an-element, rest as a-rest, shapes, shape, fits, shaped, listed, new-type, first-cell, reference, uses, first-use, keeps}
 use Rattle.laws.specs.Tests.{both-true, both-no}
 use Rattle.laws.specs.Members.{Begins}
 use Rattle.invariants.specs.Floor.{All}
@@ -152,30 +153,33 @@ module _ (ws : List ℕ) (r : ℕ) (Q : ℕ → Type 0) where
   lambda-right e lt t b c q =
       made LA a-term nil e refl (omega arith) (both-yes _ _ (lt-ltb _ _ lt) t) (eq-eqb _ _ b) c (plain LA e (λ z. omega arith)) (λ l. q, tt) tt (tt, tt)
 
-  -- records of different tags are different
-  apart : (x y k l : ℕ) → tag ws x ≡ k → tag ws y ≡ l → (k ≡ l → ⊥) → x ≡ y → ⊥
-  apart x y k l e f n i = n (sym e ∙ ap (tag ws) i ∙ f)
+  -- a head over a list of terms: the head is no list
+  applied-right : (k : ℕ) (F : Field) → tag ws r ≡ k → _≡_ {A = Shape} (getD shapes k (never, never, never)) (F, some-terms, nil) → 7 ≤ k → fits ws r F (fieldA ws r) ≡ true → All (λ x. tag ws x < 5) (reference F (fieldA ws r))
+      → fieldC ws r ≡ 0 → Begins (isTerm ws) ws r (fieldB ws r) → ((fieldB ws r ≡ NONE → ⊥) → Q (fieldB ws r)) → Right ws r Q
+  unfolding fits reference
+  applied-right k F e is lo fa low c b q =
+      made k F some-terms e is (omega arith) fa (begins-list (isTerm ws) ws r (fieldB ws r) b) c (plain k e (λ z. omega arith))
+      (all-map (λ x. tag ws x < 5) (Counts ws Q) (λ x l m. absurd (omega arith)) (reference F (fieldA ws r)) low) (lists (fieldB ws r) q)
+      (all-map (λ x. tag ws x < 5) (λ x. All (λ y. x ≡ y → ⊥) (first-cell (fieldB ws r))) (λ x l. first-all (λ y. x ≡ y → ⊥) (fieldB ws r) (λ z i. other x l (b z .1) i)) (reference F (fieldA ws r)) low)
+    where
+      other : (x : ℕ) → tag ws x < 5 → tag ws (fieldB ws r) ≡ CE → x ≡ fieldB ws r → ⊥
+      other x l five i = let z : tag ws x ≡ tag ws (fieldB ws r) = ap (tag ws) i in omega arith
 
   pub constant-right : tag ws r ≡ CA → fieldA ws r < r → tag ws (fieldA ws r) ≡ KO → fieldC ws r ≡ 0 → Begins (isTerm ws) ws r (fieldB ws r) → ((fieldB ws r ≡ NONE → ⊥) → Q (fieldB ws r)) → Right ws r Q
   unfolding shapes fits reference
-  constant-right e lt t c b q =
-      made CA a-constant some-terms e refl (omega arith) (both-yes _ _ (lt-ltb _ _ lt) (has-yes ws _ KO t)) (begins-list (isTerm ws) ws r (fieldB ws r) b) c (plain CA e (λ z. omega arith))
-      (λ l. absurd (omega arith), tt) (lists (fieldB ws r) q) (first-all (λ y. fieldA ws r ≡ y → ⊥) (fieldB ws r) (λ z. apart (fieldA ws r) (fieldB ws r) KO CE t (b z .1) (λ i. omega arith)), tt)
+  constant-right e lt t = applied-right CA a-constant e refl (omega arith) (both-yes _ _ (lt-ltb _ _ lt) (has-yes ws _ KO t)) (omega arith, tt)
 
   pub variable-right : tag ws r ≡ VA → fieldA ws r < 4096 → fieldC ws r ≡ 0 → Begins (isTerm ws) ws r (fieldB ws r) → ((fieldB ws r ≡ NONE → ⊥) → Q (fieldB ws r)) → Right ws r Q
   unfolding shapes fits reference
-  variable-right e lt c b q =
-      made VA small some-terms e refl (omega arith) (lt-ltb _ _ lt) (begins-list (isTerm ws) ws r (fieldB ws r) b) c (plain VA e (λ z. omega arith)) tt (lists (fieldB ws r) q) tt
+  variable-right e lt = applied-right VA small e refl (omega arith) (lt-ltb _ _ lt) tt
 
   pub occurrence-right : tag ws r ≡ HA → fieldA ws r < r → tag ws (fieldA ws r) ≡ HO → fieldC ws r ≡ 0 → Begins (isTerm ws) ws r (fieldB ws r) → ((fieldB ws r ≡ NONE → ⊥) → Q (fieldB ws r)) → Right ws r Q
   unfolding shapes fits reference
-  occurrence-right e lt t c b q =
-      made HA a-hole some-terms e refl (omega arith) (both-yes _ _ (lt-ltb _ _ lt) (has-yes ws _ HO t)) (begins-list (isTerm ws) ws r (fieldB ws r) b) c (plain HA e (λ z. omega arith))
-      (λ l. absurd (omega arith), tt) (lists (fieldB ws r) q) (first-all (λ y. fieldA ws r ≡ y → ⊥) (fieldB ws r) (λ z. apart (fieldA ws r) (fieldB ws r) HO CE t (b z .1) (λ i. omega arith)), tt)
+  occurrence-right e lt t = applied-right HA a-hole e refl (omega arith) (both-yes _ _ (lt-ltb _ _ lt) (has-yes ws _ HO t)) (omega arith, tt)
 
   pub hole-right : tag ws r ≡ HO → Begins (isType ws) ws r (fieldA ws r) → fieldB ws r < r → tag ws (fieldB ws r) ≡ BT → fieldC ws r ≡ 0 → ((fieldA ws r ≡ NONE → ⊥) → Q (fieldA ws r)) → Right ws r Q
   unfolding shapes fits reference
   hole-right e b lt t c q =
       made HO some-types a-base e refl (omega arith) (begins-list (isType ws) ws r (fieldA ws r) b) (both-yes _ _ (lt-ltb _ _ lt) (has-yes ws _ BT t)) c (plain HO e (λ z. omega arith))
       (lists (fieldA ws r) q) (λ l. absurd (omega arith), tt)
-      (first-all (λ x. All (λ y. x ≡ y → ⊥) (fieldB ws r ∷ [])) (fieldA ws r) (λ z. (apart (fieldA ws r) (fieldB ws r) CE BT (b z .1) t (λ i. omega arith), tt)))
+      (first-all (λ x. All (λ y. x ≡ y → ⊥) (fieldB ws r ∷ [])) (fieldA ws r) (λ z. ((λ i. let k = b z .1 in let l : tag ws (fieldA ws r) ≡ tag ws (fieldB ws r) = ap (tag ws) i in omega arith), tt)))

@@ -8,7 +8,7 @@ use native.Mathlib.Nat.{le-refl, le-trans}
 use native.Mathlib.Decide.{decLt}
 use lib.ListN.{length, getD, set, length-set}
 use lib.Seq.{getD-set-same}
-use Rattle.rules.specs.Words.{NONE, HO, tag, fieldA, fieldB, fieldC, isTerm}
+use Rattle.rules.specs.Words.{NONE, HO, tag, fieldA, fieldB, fieldC}
 use Rattle.rules.specs.Records.{uses, keeps}
 use Rattle.rules.specs.Store.{Store, put}
 use Rattle.laws.specs.Sound.{Sound}

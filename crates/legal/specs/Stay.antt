@@ -11,7 +11,8 @@ use lib.Dec.{eqb, ltb, leb}
 use borrow.Author.Tests.{ltb-true, lt-ltb, eqb-true, eq-eqb, le-leb, ne-eqb}
 use Rattle.rules.specs.Lists.{both, either, all, among, from, below}
 use Rattle.rules.specs.Words.{NONE, CE, tag, fieldA, fieldB, fieldC, has, isType, isTerm, cells, elements}
-use Rattle.rules.specs.Records.{Field, never, nil, any-number, small, type as a-type, base as a-base, constant as a-constant, hole as a-hole, term as a-term, types as some-types, terms as some-terms, element as an-element, rest as a-rest, shape, listOf, fits, shaped, alike, listed, new-type, uses, first-use, keeps}
+use Rattle.rules.specs.Records.{Field, never, nil, any-number, small, type as a-type, base as a-base, constant as a-constant, hole as a-hole, term as a-term, types as some-types, terms as some-terms}
+use Rattle.rules.specs.Records.{element as an-element, rest as a-rest, shape, listOf, fits, shaped, alike, listed, new-type, uses, first-use, keeps}
 use Rattle.laws.specs.Tests.{both-true, either-true}
 use Rattle.laws.specs.Sound.{Sound, cell-element, cell-rest}
 use Rattle.laws.specs.Lists.{cells-none, cells-more, elements-kept}
@@ -185,18 +186,25 @@ module _ (ws ws₁ : List ℕ) (n : ℕ) (t : Legal ws n) (s : Same n ws ws₁) 
     new-type-same : new-type ws₁ r ≡ new-type ws r
     unfolding new-type
     new-type-same =
-        rw (type-same r h, tag-same r h, a-same r h, b-same r h,
-        all-same (λ j. not (both (has ws₁ j (tag ws r)) (both (eqb (fieldA ws₁ j) (fieldA ws r)) (eqb (fieldB ws₁ j) (fieldB ws r)))))
-        (λ j. not (both (has ws j (tag ws r)) (both (eqb (fieldA ws j) (fieldA ws r)) (eqb (fieldB ws j) (fieldB ws r))))) (below r)
-        (all-map (λ j. j < r) _ (λ j l. rw (has-same (tag ws r) j (omega arith), a-same j (omega arith), b-same j (omega arith))) (below r) (below-all r)))
+        rw (
+          type-same r h,
+          tag-same r h,
+          a-same r h,
+          b-same r h,
+          all-same (λ j. not (both (has ws₁ j (tag ws r)) (both (eqb (fieldA ws₁ j) (fieldA ws r)) (eqb (fieldB ws₁ j) (fieldB ws r)))))
+              (λ j. not (both (has ws j (tag ws r)) (both (eqb (fieldA ws j) (fieldA ws r)) (eqb (fieldB ws j) (fieldB ws r))))) (below r)
+              (all-map (λ j. j < r) _ (λ j l. rw (has-same (tag ws r) j (omega arith), a-same j (omega arith), b-same j (omega arith))) (below r) (below-all r)),
+        )
 
     first-use-same : first-use ws₁ r ≡ first-use ws r
     unfolding first-use
     first-use-same =
-        rw (uses-same ws n g r h ws₁ s,
-        all-same (λ x. all (λ j. not (among (uses ws₁ j) x)) (below r)) (λ x. all (λ j. not (among (uses ws j) x)) (below r)) (uses ws r)
-        (all-each _ (λ x. all-same (λ j. not (among (uses ws₁ j) x)) (λ j. not (among (uses ws j) x)) (below r)
-        (all-map (λ j. j < r) _ (λ j l. rw (uses-same ws n g j (omega arith) ws₁ s)) (below r) (below-all r))) (uses ws r)))
+        rw (
+          uses-same ws n g r h ws₁ s,
+          all-same (λ x. all (λ j. not (among (uses ws₁ j) x)) (below r)) (λ x. all (λ j. not (among (uses ws j) x)) (below r)) (uses ws r)
+              (all-each _ (λ x. all-same (λ j. not (among (uses ws₁ j) x)) (λ j. not (among (uses ws j) x)) (below r)
+              (all-map (λ j. j < r) _ (λ j l. rw (uses-same ws n g j (omega arith) ws₁ s)) (below r) (below-all r))) (uses ws r)),
+        )
 
   pub sound-same : Sound ws₁ n
   unfolding keeps

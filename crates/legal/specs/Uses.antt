@@ -9,7 +9,8 @@ use lib.Dec.{eqb, ltb, leb}
 use borrow.Author.Tests.{ltb-true, eqb-true, eqb-false}
 use Rattle.rules.specs.Lists.{both, either, those}
 use Rattle.rules.specs.Words.{NONE, CE, tag, fieldA, fieldB, fieldC, has, isType, isTerm}
-use Rattle.rules.specs.Records.{Field, never, nil, any-number, small, type as a-type, base as a-base, constant as a-constant, hole as a-hole, term as a-term, types as some-types, terms as some-terms, element as an-element, rest as a-rest, shape, listOf, fits, shaped, first-cell, reference, uses, keeps}
+use Rattle.rules.specs.Records.{Field, never, nil, any-number, small, type as a-type, base as a-base, constant as a-constant, hole as a-hole, term as a-term, types as some-types}
+use Rattle.rules.specs.Records.{terms as some-terms, element as an-element, rest as a-rest, shape, listOf, fits, shaped, first-cell, reference, uses, keeps}
 use Rattle.laws.specs.Tests.{both-true, either-true}
 use Rattle.laws.specs.Sound.{Sound}
 use Rattle.invariants.specs.Floor.{All}
