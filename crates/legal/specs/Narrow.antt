@@ -18,7 +18,7 @@ use Rattle.promise.specs.Tests.{tag-is as tag-of}
 use Rattle.legal.specs.Stay.{tag-same, elements-same}
 use Rattle.legal.specs.Cells.{some-types}
 use Rattle.legal.specs.Reading.{arity, arity-same, arity-few, context-types}
-use Rattle.legal.specs.Scope.{level-scope, Part}
+use Rattle.legal.specs.Scope.{hole-scope, Part}
 use Rattle.legal.specs.Sane.{Solution, Sane, legal, Kept, kept-trans, added, added-same, tag-is, a-is}
 use Rattle.legal.specs.Added.{Chain, hole-added}
 use Rattle.legal.specs.Ran.{Ran, ran-bind, ran-push}
@@ -28,20 +28,7 @@ use Rattle.promise.specs.Outcomes.{ended}
 -- an occurrence is in scope where its variables are, and it has as many as its hole takes
 pub occurrence-part : {R : ℕ} {s s₁ : Store} {h x : ℕ} {vs : List ℕ} (c b : ℕ) → Occurrence R s s₁ h x vs → All (λ v. v < b) vs → length vs ≡ arity (s₁ .words) h → b ≤ c → Part s₁ c b x
 occurrence-part {s₁ = s₁} {h} {x} {vs} c b o low count le =
-    let e = o .is in
-    record {
-      below = o .root .below;
-      term = o .root .term;
-      scope = level-scope (s₁ .words) c b x
-          (record {
-            body = λ z. absurd (omega arith);
-            number = λ z. absurd (omega arith);
-            parts = λ lo hi. absurd (omega arith);
-            names = λ z. rw (o .names) low;
-            count = λ z. rw (o .names, o .head) count;
-            cap = λ z. le;
-          });
-    }
+    record { below = o .root .below; term = o .root .term; scope = hole-scope (s₁ .words) c b x (o .is) (rw (o .names) low) (rw (o .names, o .head) count) le }
 
 -- a hole is settled by a term in scope under its context
 pub settle-kept : {R : ℕ} {s s₁ : Store} (c h t : ℕ) → Kept R s s₁ → h < s₁ .used → tag (s₁ .words) h ≡ HO → Part s₁ c (arity (s₁ .words) h) t

@@ -19,7 +19,7 @@ use Rattle.invariants.specs.Forms.{form-6, form-7, form-8}
 use Rattle.promise.specs.Tests.{tag-is as tag-of}
 use Rattle.legal.specs.Stay.{tag-same, elements-same}
 use Rattle.legal.specs.Reading.{term-tag, all-both, arguments-terms, few-arguments}
-use Rattle.legal.specs.Scope.{Level, Scopes, scope-level, level-scope, Part, part-on}
+use Rattle.legal.specs.Scope.{Scopes, scope-level, lambda-scope, applied-scope, Part, part-on}
 use Rattle.legal.specs.Sane.{legal, added, added-same, tag-is, a-is, b-is}
 use Rattle.legal.specs.Added.{Root, lambda-added, constant-added, variable-added}
 use Rattle.legal.specs.Ran.{Ran, ran-bind, ran-map, ran-fail, ran-push}
@@ -31,7 +31,8 @@ unfolding form has
 form-other ws r a b c = rw (ne-eqb _ _ a, form, ne-eqb _ _ b, ne-eqb _ _ c)
 
 -- a constant or variable over a list in scope is in scope
-head-part : {R B k : ℕ} {s s₁ : Store} (t a l : ℕ) → WroteList R B k s s₁ l → s₁ .used < R → 7 ≤ t → t ≤ 8 → (t ≡ VA → a < B) → Root s (added s₁ t a l) (s₁ .used) → Part (added s₁ t a l) (B + (s₁ .used + 1 - s .used)) B (s₁ .used)
+head-part : {R B k : ℕ} {s s₁ : Store} (t a l : ℕ) → WroteList R B k s s₁ l → s₁ .used < R → 7 ≤ t → t ≤ 8 → (t ≡ VA → a < B) → Root s (added s₁ t a l) (s₁ .used)
+    → Part (added s₁ t a l) (B + (s₁ .used + 1 - s .used)) B (s₁ .used)
 unfolding arguments
 head-part {B = B} {s = s} {s₁} t a l w lt lo hi low r =
     let i = w .kept .sane in
@@ -41,17 +42,12 @@ head-part {B = B} {s = s} {s₁} t a l w lt lo hi low r =
     let els = elements-same (s₁ .words) (added s₁ t a l .words) (s₁ .used) (legal i) on l (λ z. let q = w .chain .begins z in (q .0, q .1)) in
     let c = B + (s₁ .used - s .used) in
     let c₁ = B + (s₁ .used + 1 - s .used) in
-    let level : Level (Scopes (added s₁ t a l .words) c₁) (added s₁ t a l .words) c₁ B (s₁ .used) = record {
-      body = λ z. absurd (omega arith);
-      number = λ z. rw (a-is t a l i lt) (low (sym e ∙ z));
-      parts = λ x y.
-          rw (b-is t a l i lt, els, w .chain .is)
-          (all-map (Part s₁ c B) (Scopes (added s₁ t a l .words) c₁ B) (λ x p. part-on {s₁ = added s₁ t a l} c c₁ B x (legal i) on (omega arith) (omega arith) p .scope) (w .records) (w .parts));
-      names = λ z. absurd (omega arith);
-      count = λ z. absurd (omega arith);
-      cap = λ z. absurd (omega arith);
-    } in
-    record { below = r .below; term = r .term; scope = level-scope (added s₁ t a l .words) c₁ B (s₁ .used) level }
+    let parts = all-map (Part s₁ c B) (Scopes (added s₁ t a l .words) c₁ B) (λ x p. part-on {s₁ = added s₁ t a l} c c₁ B x (legal i) on (omega arith) (omega arith) p .scope) (w .records) (w .parts) in
+    record {
+      below = r .below;
+      term = r .term;
+      scope = applied-scope (added s₁ t a l .words) c₁ B (s₁ .used) (omega arith) (omega arith) (λ z. rw (a-is t a l i lt) (low (sym e ∙ z))) (rw (b-is t a l i lt, els, w .chain .is) parts);
+    }
 
 module _ (R : ℕ) (Fits : Map → ℕ → Type 0) (onHole w : Writer) (at : WritesHole R Fits onHole) (writes : Writes R Fits w) (m : Map) (d r : ℕ) (s : Store) where
   abbrev Says : Store → ℕ → Type 0
@@ -68,19 +64,11 @@ module _ (R : ℕ) (Fits : Map → ℕ → Type 0) (onHole w : Writer) (at : Wri
       let w₁ = p T b (record { sane = i .sane; cap = i .cap; part = inner; leads = i .leads; fits = i .fits }) (omega arith) in
       let k = lambda-added (w₁ .kept) lt y (w₁ .root) in
       let i₁ = w₁ .kept .sane in
-      let t = tag-is LA y 0 i₁ lt in
       let B : T + (d + 1) ≡ T + d + 1 = omega arith in
       let c₁ = T + d + (s₁ .used + 1 - s .used) in
       let body = part-on {s₁ = added s₁ LA y 0} (T + (d + 1) + (s₁ .used - s .used)) c₁ (T + (d + 1)) y (legal i₁) (added-same LA y 0 i₁ lt) (omega arith) (omega arith) (w₁ .part) .scope in
-      let level : Level (Scopes (added s₁ LA y 0 .words) c₁) (added s₁ LA y 0 .words) c₁ (T + d) (s₁ .used) = record {
-        body = λ q. rw (a-is LA y 0 i₁ lt) (rw B at body);
-        number = λ q. absurd (omega arith);
-        parts = λ lo hi. absurd (omega arith);
-        names = λ q. absurd (omega arith);
-        count = λ q. absurd (omega arith);
-        cap = λ q. absurd (omega arith);
-      } in
-      record { kept = k .0; root = k .1; part = record { below = k .1 .below; term = k .1 .term; scope = level-scope (added s₁ LA y 0 .words) c₁ (T + d) (s₁ .used) level } }
+      let scope = lambda-scope (added s₁ LA y 0 .words) c₁ (T + d) (s₁ .used) (tag-is LA y 0 i₁ lt) (rw (a-is LA y 0 i₁ lt) (rw B at body)) in
+      record { kept = k .0; root = k .1; part = record { below = k .1 .below; term = k .1 .term; scope = scope } }
 
   -- the arguments
   sources : (T b : ℕ) → Source R Fits m T b d r s → 7 ≤ tag (s .words) r → tag (s .words) r ≤ 8 → Sources R Fits m T b d (arguments (s .words) r) s

@@ -50,7 +50,7 @@ scope-level ws c b x h =
       cap = λ e. h 1 .cap e;
     }
 
-pub level-scope : (ws : List ℕ) (c b x : ℕ) → Level (Scopes ws c) ws c b x → Scopes ws c b x
+level-scope : (ws : List ℕ) (c b x : ℕ) → Level (Scopes ws c) ws c b x → Scopes ws c b x
 level-scope ws c b x h zero = tt
 level-scope ws c b x h (suc f) =
     record {
@@ -61,6 +61,23 @@ level-scope ws c b x h (suc f) =
       count = h .count;
       cap = h .cap;
     }
+
+-- by the form of the term
+module _ (ws : List ℕ) (c b x : ℕ) where
+  pub lambda-scope : tag ws x ≡ LA → Scopes ws c (b + 1) (fieldA ws x) → Scopes ws c b x
+  lambda-scope e h =
+      level-scope ws c b x
+      (record { body = λ z. h; number = λ z. absurd (omega arith); parts = λ lo hi. absurd (omega arith); names = λ z. absurd (omega arith); count = λ z. absurd (omega arith); cap = λ z. absurd (omega arith) })
+
+  pub applied-scope : 7 ≤ tag ws x → tag ws x ≤ 8 → (tag ws x ≡ VA → fieldA ws x < b) → All (Scopes ws c b) (arguments ws x) → Scopes ws c b x
+  applied-scope lo hi low h =
+      level-scope ws c b x
+      (record { body = λ z. absurd (omega arith); number = low; parts = λ i j. h; names = λ z. absurd (omega arith); count = λ z. absurd (omega arith); cap = λ z. absurd (omega arith) })
+
+  pub hole-scope : tag ws x ≡ HA → All (λ v. v < b) (variables ws x) → length (variables ws x) ≡ arity ws (fieldA ws x) → b ≤ c → Scopes ws c b x
+  hole-scope e low n le =
+      level-scope ws c b x
+      (record { body = λ z. absurd (omega arith); number = λ z. absurd (omega arith); parts = λ lo hi. absurd (omega arith); names = λ z. low; count = λ z. n; cap = λ z. le })
 
 -- a higher bound
 scoped-more : (f : ℕ) (ws : List ℕ) (c k b x : ℕ) → c ≤ k → Scoped f ws c b x → Scoped f ws k b x

@@ -169,7 +169,11 @@ module _ (ws ws₁ : List ℕ) (n : ℕ) (t : Legal ws n) (s : Same n ws ws₁) 
             let lt = i .0 in
             let k = cell-element ws n g r h e in
             let m = cell-element ws n g (fieldB ws r) (omega arith) (i .1) in
-            rw (a-same r h, b-same r h, a-same (fieldB ws r) (omega arith), type-same (fieldA ws r) (omega arith), term-same (fieldA ws r) (omega arith), type-same (fieldA ws (fieldB ws r)) (omega arith), term-same (fieldA ws (fieldB ws r)) (omega arith))
+            let a₁ = type-same (fieldA ws r) (omega arith) in
+            let b₁ = term-same (fieldA ws r) (omega arith) in
+            let a₂ = type-same (fieldA ws (fieldB ws r)) (omega arith) in
+            let b₂ = term-same (fieldA ws (fieldB ws r)) (omega arith) in
+            rw (a-same r h, b-same r h, a-same (fieldB ws r) (omega arith), a₁, b₁, a₂, b₂)
 
     listed-same : listed ws r ≡ true → listed ws₁ r ≡ true
     unfolding listed

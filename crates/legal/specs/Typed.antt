@@ -11,7 +11,7 @@ use Rattle.trees.specs.Tree.{Ty, Tree, AllL, Sig, Kind, HasTy, t-lam, t-con, t-
 use Rattle.trees.specs.Typing.{At-lt, vars-below, vars-length}
 use Rattle.promise.specs.Reading.{Node, one, many, Reads, r-lam, r-con, r-var, r-hol, r-nil, r-cons, ReadsTys, ty-nil, ty-cons, HoleAt, listed-elements, listed-arguments, listed-variables}
 use Rattle.legal.specs.Reading.{arity}
-use Rattle.legal.specs.Scope.{Scopes, level-scope}
+use Rattle.legal.specs.Scope.{Scopes, lambda-scope, applied-scope, hole-scope}
 
 all-of : (P : ℕ → Type 0) (xs : List ℕ) → AllL P xs → All P xs
 all-of P [] h = tt
@@ -35,25 +35,15 @@ module _ (ws : List ℕ) (c top : ℕ) (S : ℕ → Option Ty) (D : Sig) (declar
   typed-scope {G = G} (r-lam {r = r} {a = a} h e f d) (t-lam ty) le =
       let z : length G + 1 ≡ suc (length G) = omega arith in
       let body : Scopes ws c (suc (length G)) a = typed-scope d ty (omega arith) in
-      level-scope ws c (length G) r
-      (record { body = λ q. rw (f, z) body; number = λ q. absurd (omega arith); parts = λ lo hi. absurd (omega arith); names = λ q. absurd (omega arith); count = λ q. absurd (omega arith); cap = λ q. absurd (omega arith) })
+      lambda-scope ws c (length G) r e (rw (f, z) body)
   typed-scope {G = G} (r-con {r = r} {xs = xs} h e f g l d) (t-con s ty) le =
       let parts : All (Scopes ws c (length G)) xs = typed-scope d ty (omega arith) in
-      level-scope ws c (length G) r
-      (record { body = λ q. absurd (omega arith); number = λ q. absurd (omega arith); parts = λ lo hi. rw (listed-arguments r g l) parts; names = λ q. absurd (omega arith); count = λ q. absurd (omega arith); cap = λ q. absurd (omega arith) })
+      applied-scope ws c (length G) r (omega arith) (omega arith) (λ q. absurd (omega arith)) (rw (listed-arguments r g l) parts)
   typed-scope {G = G} (r-var {r = r} {v = v} {xs = xs} h e f g l d) (t-var {A = A} s ty) le =
       let parts : All (Scopes ws c (length G)) xs = typed-scope d ty (omega arith) in
-      level-scope ws c (length G) r
-      (record { body = λ q. absurd (omega arith); number = λ q. rw f (At-lt G v A s); parts = λ lo hi. rw (listed-arguments r g l) parts; names = λ q. absurd (omega arith); count = λ q. absurd (omega arith); cap = λ q. absurd (omega arith) })
+      applied-scope ws c (length G) r (omega arith) (omega arith) (λ q. rw f (At-lt G v A s)) (rw (listed-arguments r g l) parts)
   typed-scope {G = G} (r-hol {r = r} {h = u} {vs = vs} h e f g l d) (t-hol {C = C} {b = b} s v w) le =
-      level-scope ws c (length G) r
-      (record {
-        body = λ q. absurd (omega arith);
-        number = λ q. absurd (omega arith);
-        parts = λ lo hi. absurd (omega arith);
-        names = λ q. rw (listed-variables r g l d) (all-of (λ j. j < length G) vs (vars-below v));
-        count = λ q. rw (listed-variables r g l d, f) (vars-length v ∙ sym (hole-takes (declared u C b s)));
-        cap = λ q. omega arith;
-      })
+      hole-scope ws c (length G) r e (rw (listed-variables r g l d) (all-of (λ j. j < length G) vs (vars-below v)))
+      (rw (listed-variables r g l d, f) (vars-length v ∙ sym (hole-takes (declared u C b s)))) (omega arith)
   typed-scope r-nil t-nil le = tt
   typed-scope (r-cons a d) (t-cons x y) le = (typed-scope a x le, typed-scope d y le)
