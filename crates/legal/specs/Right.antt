@@ -29,6 +29,7 @@ Free ws n x = (j : ℕ) → j < n → All (λ y. y ≡ x → ⊥) (uses ws j)
 abbrev Single : ℕ → List ℕ → Type 0
 Single x xs = (xs ≡ []) ⊎ (xs ≡ x ∷ [])
 
+-- a field refers to one record at most
 first-single : (x : ℕ) → Single x (first-cell x)
 unfolding first-cell
 first-single x = go (eqb x NONE) refl
@@ -58,6 +59,7 @@ unfolding among any either
 among-no [] x h = refl
 among-no (y ∷ ys) x h = rw (ne-eqb _ _ (h .0)) (among-no ys x (h .1))
 
+-- so a record refers to no record twice, if its two fields refer to different ones
 distinct-one : (ok : ℕ → Bool) (x : ℕ) → distinct (those ok (x ∷ [])) ≡ true
 unfolding distinct those among any both
 distinct-one ok x = go (ok x) refl
@@ -109,6 +111,7 @@ free-first ws r d h = both-yes _ _ d (all-yes (λ x. all (λ j. not (among (uses
     one x f = all-yes (λ j. not (among (uses ws j) x)) (below r)
         (all-map (λ j. j < r) (λ j. not (among (uses ws j) x) ≡ true) (λ j l. rw (among-no (uses ws j) x (f j l))) (below r) (below-all r))
 
+-- it is no type, so that it equals none
 untyped : (ws : List ℕ) (r : ℕ) → 3 ≤ tag ws r → isType ws r ≡ false
 unfolding isType
 untyped ws r h = rw (lt-leb (tag ws r) 2 h) (both-no (leb 1 (tag ws r)))
@@ -124,6 +127,7 @@ abbrev pub Counts : List ℕ → (ℕ → Type 0) → ℕ → Type 0
 Counts ws Q x = 5 ≤ tag ws x → Q x
 
 module _ (ws : List ℕ) (r : ℕ) (Q : ℕ → Type 0) where
+  -- a record whose shape is that of tag k
   pub made : (k : ℕ) (F G : Field) → tag ws r ≡ k → _≡_ {A = Shape} (getD shapes k (never, never, never)) (F, G, nil) → 3 ≤ k → fits ws r F (fieldA ws r) ≡ true → fits ws r G (fieldB ws r) ≡ true → fieldC ws r ≡ 0
       → listed ws r ≡ true → All (Counts ws Q) (reference F (fieldA ws r)) → All (Counts ws Q) (reference G (fieldB ws r))
       → All (λ x. All (λ y. x ≡ y → ⊥) (reference G (fieldB ws r))) (reference F (fieldA ws r)) → Right ws r Q
@@ -140,6 +144,7 @@ module _ (ws : List ℕ) (r : ℕ) (Q : ℕ → Type 0) where
             (all-append (Counts ws Q) (reference F (fieldA ws r)) (reference G (fieldB ws r) ++ []) qa (all-append (Counts ws Q) (reference G (fieldB ws r)) [] qb tt))));
       }
 
+  -- only a cell must begin a list
   plain : (k : ℕ) → tag ws r ≡ k → (k ≡ CE → ⊥) → listed ws r ≡ true
   unfolding listed
   plain k e n = either-left _ _ (no-cell ws r (λ z. n (rw e at z)))

@@ -18,6 +18,7 @@ use Rattle.invariants.specs.Grow.{all-map}
 use Rattle.invariants.specs.Pairs.{all-append}
 use Rattle.promise.specs.Reading.{Same}
 
+-- what holds of those that pass
 pub those-all : (P : ℕ → Type 0) (ok : ℕ → Bool) (xs : List ℕ) → All (λ x. ok x ≡ true → P x) xs → All P (those ok xs)
 unfolding those
 those-all P ok [] h = tt
@@ -27,6 +28,7 @@ those-all P ok (x ∷ xs) h = go (ok x) refl (those-all P ok xs (h .1))
     go true e ih = rw (e, those) (h .0 e, ih)
     go false e ih = rw (e, those) ih
 
+-- two tests that agree on a list
 those-same : (ok ok₁ : ℕ → Bool) (xs : List ℕ) → All (λ x. ok₁ x ≡ ok x) xs → those ok₁ xs ≡ those ok xs
 unfolding those
 those-same ok ok₁ [] h = refl
