@@ -1,16 +1,17 @@
 -- How high a map leads, exactly: below the number of variables in scope where the term is written; and where it leads everywhere.
-use Prim.Native.Nat.{ℕ, suc, _+_, _-_, _<_, _≤_}
-use mathlib.Core.Path.{_≡_, refl}
+use Prim.Native.Nat.{ℕ, _+_, _-_, _<_, _≤_}
+use mathlib.Core.Path.{_≡_, refl, sym, _∙_}
 use mathlib.Core.List.{List, [], _∷_}
 use native.Mathlib.Omega.{arith}
 use native.Mathlib.Decide.{decLt, ℕ-discrete}
 use lib.ListN.{length}
-use borrow.Author.Tests.{lt-ltb, le-ltb, eq-eqb, ne-eqb}
+use borrow.Author.Tests.{lt-ltb, le-ltb}
 use Rattle.rules.specs.declared.Found.{Found}
 use Rattle.rules.specs.declared.Found.the-variants.{At, Nowhere}
 use Rattle.rules.specs.Map.{Map, sources, targets, lookup, placeOf, toPositions, toVariables, follow}
 use Rattle.invariants.specs.Floor.{All}
-use Rattle.invariants.specs.Grow.{all-map}
+use Rattle.invariants.specs.Places.{followed as weakly}
+use Rattle.promise.specs.Maps.{lookup-here, lookup-on}
 
 -- every place is below T
 abbrev pub Leads : Map → ℕ → Type 0
@@ -21,12 +22,11 @@ unfolding lookup
 leads-none T v w e = let z : _≡_ {A = ℕ} 0 1 = cc in absurd (omega arith)
 
 leads-more : (j y T : ℕ) (m : Map) → y < T → Leads m T → Leads ((j, y) ∷ m) T
-unfolding lookup
 leads-more j y T m h l v w q = at (ℕ-discrete j v)
   where
     at : Dec (j ≡ v) → w < T
-    at (yes f) = let g : At y ≡ At w = (rw (eq-eqb _ _ f, lookup) at q) in let z : y ≡ w = cc in omega arith
-    at (no f) = let g : lookup m v ≡ At w = (rw (ne-eqb _ _ f, lookup) at q) in l v w g
+    at (yes f) = let g : At y ≡ At w = sym (lookup-here j y m v f) ∙ q in let z : y ≡ w = cc in omega arith
+    at (no f) = l v w (sym (lookup-on j y m v f) ∙ q)
 
 -- under d lambdas
 pub place-below : (m : Map) (d T v w : ℕ) → Leads m T → placeOf m d v ≡ At w → w < T + d
@@ -53,23 +53,21 @@ pub record Followed (j k T : ℕ) (m : Map) : Type 0 where
   pub to : All (λ w. w < T) (targets m)
   pub from : All (λ w. w < j + k) (sources m)
 
-pub followed : (m : Map) (d T j : ℕ) (xs : List ℕ) → Leads m T → Followed j (length xs) (T + d) (follow m d j xs)
+follow-leads : (m : Map) (d T j : ℕ) (xs : List ℕ) → Leads m T → Leads (follow m d j xs) (T + d) × All (λ w. w < T + d) (targets (follow m d j xs))
 unfolding follow
-followed m d T j [] h = record { leads = leads-none (T + d); few = omega arith; to = tt; from = tt }
-followed m d T j (x ∷ xs) h = go (placeOf m d x) refl (followed m d T (j + 1) xs h)
+follow-leads m d T j [] h = (leads-none (T + d), tt)
+follow-leads m d T j (x ∷ xs) h = go (placeOf m d x) refl (follow-leads m d T (j + 1) xs h)
   where
-    go : (p : Found) → placeOf m d x ≡ p → Followed (j + 1) (length xs) (T + d) (follow m d (j + 1) xs) → Followed j (suc (length xs)) (T + d) (follow m d j (x ∷ xs))
-    go Nowhere e ih =
-        rw (e, follow) (record { leads = ih .leads; few = omega arith; to = ih .to; from = all-map (λ w. w < j + 1 + length xs) (λ w. w < j + suc (length xs)) (λ w l. omega arith) (sources (follow m d (j + 1) xs)) (ih .from) })
-    go (At y) e ih =
-        let low = place-below m d T x y h e in
-        rw (e, follow)
-        (record {
-          leads = leads-more j y (T + d) (follow m d (j + 1) xs) low (ih .leads);
-          few = omega arith;
-          to = (low, ih .to);
-          from = (omega arith, all-map (λ w. w < j + 1 + length xs) (λ w. w < j + suc (length xs)) (λ w l. omega arith) (sources (follow m d (j + 1) xs)) (ih .from));
-        })
+    go : (p : Found) → placeOf m d x ≡ p → Leads (follow m d (j + 1) xs) (T + d) × All (λ w. w < T + d) (targets (follow m d (j + 1) xs))
+        → Leads (follow m d j (x ∷ xs)) (T + d) × All (λ w. w < T + d) (targets (follow m d j (x ∷ xs)))
+    go Nowhere e ih = rw (e, follow) ih
+    go (At y) e ih = let low = place-below m d T x y h e in rw (e, follow) (leads-more j y (T + d) (follow m d (j + 1) xs) low (ih .0), (low, ih .1))
+
+pub followed : (m : Map) (d T j : ℕ) (xs : List ℕ) → Leads m T → Followed j (length xs) (T + d) (follow m d j xs)
+followed m d T j xs h =
+    let p = follow-leads m d T j xs h in
+    let q = weakly m d T j xs (record { low = λ v w e. let l = h v w e in omega arith }) in
+    record { leads = p .0; few = q .few; to = p .1; from = q .from }
 
 pub variables-lead : (j T : ℕ) (xs : List ℕ) → All (λ v. v < T) xs → Leads (toVariables j xs) T
 unfolding toVariables
@@ -86,13 +84,13 @@ abbrev pub Total : Map → ℕ → Type 0
 Total m b = (v : ℕ) → v < b → (w : ℕ) × (lookup m v ≡ At w)
 
 total-from : (j v : ℕ) (xs : List ℕ) → j ≤ v → v < j + length xs → (w : ℕ) × (lookup (toVariables j xs) v ≡ At w)
-unfolding lookup toVariables
+unfolding toVariables
 total-from j v [] lo hi = absurd (omega arith)
 total-from j v (x ∷ xs) lo hi = go (ℕ-discrete j v) (total-from (j + 1) v xs)
   where
     go : Dec (j ≡ v) → (j + 1 ≤ v → v < j + 1 + length xs → (w : ℕ) × (lookup (toVariables (j + 1) xs) v ≡ At w)) → (w : ℕ) × (lookup ((j, x) ∷ toVariables (j + 1) xs) v ≡ At w)
-    go (yes e) ih = (x, rw (eq-eqb _ _ e, lookup))
-    go (no e) ih = let p = ih (omega arith) (omega arith) in (p .0, rw (ne-eqb _ _ e, lookup) (p .1))
+    go (yes e) ih = (x, lookup-here j x (toVariables (j + 1) xs) v e)
+    go (no e) ih = let p = ih (omega arith) (omega arith) in (p .0, lookup-on j x (toVariables (j + 1) xs) v e ∙ p .1)
 
 pub variables-total : (xs : List ℕ) → Total (toVariables 0 xs) (length xs)
 variables-total xs v h = total-from 0 v xs (omega arith) (omega arith)
