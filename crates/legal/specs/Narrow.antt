@@ -15,6 +15,7 @@ use Rattle.laws.specs.Sound.{hole-base}
 use Rattle.invariants.specs.Floor.{All}
 use Rattle.invariants.specs.Grow.{all-map}
 use Rattle.promise.specs.Tests.{tag-is as tag-of}
+use Rattle.promise.specs.Outcomes.{ended}
 use Rattle.legal.specs.Stay.{tag-same, elements-same}
 use Rattle.legal.specs.Cells.{some-types}
 use Rattle.legal.specs.Reading.{arity, arity-same, arity-few, context-types}
@@ -23,7 +24,6 @@ use Rattle.legal.specs.Sane.{Solution, Sane, legal, Kept, kept-trans, ad
 use Rattle.legal.specs.Added.{Chain, hole-added}
 use Rattle.legal.specs.Ran.{Ran, ran-bind, ran-push}
 use Rattle.legal.specs.Lists.{cells-ran, Occurrence, occurrence-ran}
-use Rattle.promise.specs.Outcomes.{ended}
 
 -- an occurrence is in scope where its variables are, and it has as many as its hole takes
 pub occurrence-part : {R : ℕ} {s s₁ : Store} {h x : ℕ} {vs : List ℕ} (c b : ℕ) → Occurrence R s s₁ h x vs → All (λ v. v < b) vs → length vs ≡ arity (s₁ .words) h → b ≤ c → Part s₁ c b x
@@ -85,9 +85,11 @@ module _ (R h : ℕ) (ks : List ℕ) (s : Store) where
     pub positions : All (λ k. k < arity (s .words) h) ks
     pub few : length ks ≤ 16
 
+  -- the kept entries of the old hole's context
   abbrev entries : List ℕ
   entries = map (λ k. getD (elements (s .words) (fieldA (s .words) h)) k 0) ks
 
+  -- the new hole over them
   declare : (s₁ : Store) (l : ℕ) → s₁ .used < R → (Sane R s → All (λ x. (x < s .used) × (isType (s .words) x ≡ true)) entries → length entries ≤ 16 → Kept R s s₁ × Chain some-types s s₁ l entries)
       → Narrows → Narrowed R (length ks) s (added s₁ HO l (fieldB (s .words) h)) (s₁ .used)
   declare s₁ l lt p n =
@@ -111,6 +113,7 @@ module _ (R h : ℕ) (ks : List ℕ) (s : Store) where
         takes = rw (a-is HO l (fieldB (s .words) h) (k .sane) lt, els, q .1 .is) (simp length-map);
       }
 
+  -- the old hole's solution, which applies the new hole to the kept positions
   finish : (s₂ : Store) (x : ℕ) → (Narrows → Narrowed R (length ks) s s₂ x) → (s₃ : Store) (t : ℕ)
       → (Sane R s₂ → x < s₂ .used → tag (s₂ .words) x ≡ HO → All (λ v. v < 4096) ks → length ks ≤ 16 → Occurrence R s₂ s₃ x t ks)
       → Narrows → Narrowed R (length ks) s (settle h t s₃) x
