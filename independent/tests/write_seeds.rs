@@ -25,7 +25,7 @@ fn generated_tables_have_no_fault() {
 fn generated_files_are_written_back_as_they_should() {
     for index in 0..300 {
         let given = file_problem(8, index, Scale::Small);
-        assert_eq!(written_back_faults(&given.file), Vec::<String>::new(), "file {index}");
+        assert_eq!(written_back_faults(write, &given.file), Vec::<String>::new(), "file {index}");
     }
 }
 
@@ -80,6 +80,40 @@ fn every_boundary_is_met() {
     for ((name, ..), count) in stands.iter().zip(met) {
         assert!(count > 0, "{name} never met");
     }
+}
+
+#[test]
+fn n_ends_just_before_and_just_behind_a_broken_record() {
+    let (mut before, mut behind) = (0, 0);
+    for index in 0..2000 {
+        let mut p = write_problem(9, index, Scale::Small);
+        let broken = lowest_broken(&p.table, p.table.len() / 4);
+        let reply = write(&p.table, p.n, &mut p.file);
+        before += i32::from(reply.answer == 0 && p.n > 0 && broken == Some(p.n));
+        behind += i32::from(reply.answer == 5 && reply.place as usize + 1 == p.n);
+    }
+    assert!(before >= 100 && behind >= 100, "{before} before, {behind} behind");
+}
+
+#[test]
+fn tables_that_solving_does_not_solve_are_written_and_written_after_it_too() {
+    let mut met = [0; 14];
+    let mut handed = [0; 15];
+    for index in 0..1500 {
+        let given = write_problem(12, index, Scale::Small);
+        let report = check_write(&given);
+        if report.answer == 0 {
+            met[report.solving as usize] += 1;
+        }
+        if given.kind == WriteKind::Handed {
+            handed[report.answer as usize] += 1;
+        }
+    }
+    for answer in [0, 1, 2, 3, 6, 7, 9] {
+        assert!(met[answer] > 0, "never written where solving answers {answer}: {met:?}");
+    }
+    assert_eq!(met[5], 0);
+    assert!([0, 5, 14].iter().all(|&answer| handed[answer] > 0), "{handed:?}");
 }
 
 #[test]

@@ -2,6 +2,7 @@
 
 mod common;
 use common::*;
+use independent::stored::checks::checks;
 use independent::{read, solve, write};
 
 /// The bytes that the file holds before writing, in these tests.
@@ -129,6 +130,23 @@ fn a_broken_record_is_5_with_the_lowest_place() {
         let n = records.len();
         assert_eq!(refusal(&table(records), n, 14 * n), reply(5, place, 0), "{records:?}");
     }
+}
+
+/// Every rule of the records section has entries in the stored checks.
+#[test]
+fn of_the_stored_checks_4_and_5_are_refused_and_all_else_is_written() {
+    let mut met = [0; 15];
+    for entry in checks() {
+        let n = entry.n as usize;
+        let (said, _) = written(&entry.words, n, 14 * n.min(4096));
+        let expected = match entry.answer {
+            4 | 5 => reply(entry.answer, entry.place, 0),
+            _ => reply(0, 0, entry.n),
+        };
+        assert_eq!(said, expected, "{}", entry.name);
+        met[entry.answer as usize] += 1;
+    }
+    assert!([4, 5, 6, 7].iter().all(|&answer| met[answer] >= 15), "{met:?}");
 }
 
 #[test]

@@ -7,6 +7,7 @@ use crate::generate::{problem, Scale};
 use crate::selfcheck::files::file_faults;
 use crate::selfcheck::writes::{check_write, written_back_faults, WriteReport};
 use crate::selfcheck::{check_problem, describe, Report};
+use crate::write::write;
 use std::collections::BTreeMap;
 use std::io::{self, Write};
 
@@ -79,7 +80,11 @@ impl Sum {
         let counted = self.writes.entry(given.kind.letter()).or_default();
         let slots = counted.iter_mut().zip(WRITE_ANSWERS);
         slots.filter(|(_, answer)| *answer == report.answer).for_each(|(slot, _)| *slot += 1);
-        self.count("write and solve both refuse with 5", report.refused_by_both);
+        let (written, solving) = (report.answer == 0, report.solving);
+        self.count("write and solve both refuse with 5", report.answer == 5 && solving == 5);
+        self.count("written, ill-typed", written && solving == 6);
+        self.count("written, no pattern", written && solving == 7);
+        self.count("written, clash, escape or occurs", written && (1..=3).contains(&solving));
         let used = report.solved;
         self.count("left by solving, at most 2,048 records, written", used.is_some_and(|used| used <= 2048));
         self.count("left by solving, above 2,048 records, refused", used.is_some_and(|used| used > 2048));
@@ -97,7 +102,7 @@ pub fn check_seeds(out: &mut dyn Write, seed: u64, count: u64, scale: Scale) -> 
         if index % PROBLEMS_PER_FILE == 0 {
             let given = file_problem(seed, index / PROBLEMS_PER_FILE, scale);
             let (answer, mut faults) = file_faults(&given);
-            faults.extend(written_back_faults(&given.file));
+            faults.extend(written_back_faults(write, &given.file));
             sum.answer('f', "read", answer);
             sum.faults(format!("file {}", index / PROBLEMS_PER_FILE), faults);
         }

@@ -4,6 +4,7 @@ use crate::generate::append::Editor;
 use crate::generate::edit::{change_field, change_tag, use_twice};
 use crate::generate::problem::{litter, table_of};
 use crate::generate::{long, problem, typed, Scale};
+use crate::machine::records::lowest_broken;
 use crate::machine::solve::solve;
 use crate::random::Random;
 use crate::read::RECORD_BYTES;
@@ -18,17 +19,19 @@ pub enum WriteKind {
     Tag,
     Twice,
     Solved,
+    Handed,
     Long,
 }
 
 impl WriteKind {
-    pub const ALL: [WriteKind; 7] = [
+    pub const ALL: [WriteKind; 8] = [
         WriteKind::Problem,
         WriteKind::Appended,
         WriteKind::Field,
         WriteKind::Tag,
         WriteKind::Twice,
         WriteKind::Solved,
+        WriteKind::Handed,
         WriteKind::Long,
     ];
 
@@ -40,6 +43,7 @@ impl WriteKind {
             WriteKind::Tag => 't',
             WriteKind::Twice => 'u',
             WriteKind::Solved => 's',
+            WriteKind::Handed => 'h',
             WriteKind::Long => 'l',
         }
     }
@@ -52,6 +56,7 @@ impl WriteKind {
             52..=61 => WriteKind::Tag,
             62..=73 => WriteKind::Twice,
             74..=77 if scale == Scale::Usual => WriteKind::Long,
+            78..=86 => WriteKind::Handed,
             _ => WriteKind::Solved,
         }
     }
@@ -69,8 +74,12 @@ pub struct WriteProblem {
 /// The write problem of a seed and an index.
 pub fn write_problem(seed: u64, index: u64, scale: Scale) -> WriteProblem {
     let mut random = Random::of_pair(seed ^ 0x0F_14B1_7E50, index);
-    let random = &mut random;
-    let kind = WriteKind::some(random, scale);
+    let kind = WriteKind::some(&mut random, scale);
+    of_kind(kind, &mut random, scale)
+}
+
+/// A table of this kind, n, and an output.
+pub fn of_kind(kind: WriteKind, random: &mut Random, scale: Scale) -> WriteProblem {
     let (table, count) = match kind {
         WriteKind::Problem => {
             let given = problem(random.draw(), 0, scale);
@@ -80,20 +89,32 @@ pub fn write_problem(seed: u64, index: u64, scale: Scale) -> WriteProblem {
         WriteKind::Long => long::long(random),
         _ => in_table(&edited(random, scale, kind), random),
     };
-    let n = if kind == WriteKind::Long { count } else { some_n(random, count, room(&table)) };
+    let n = if kind == WriteKind::Long { count } else { some_n(random, &table, count) };
     let bytes = some_length(random, RECORD_BYTES * n.min(room(&table) + 2));
     let file = litter(random, bytes).into_iter().map(|word| word as u8).collect();
     WriteProblem { kind, table, n, file }
 }
 
-/// A typed problem's records after one to three edits of one kind.
+/// A typed problem's records, or those that solving used, after edits of one kind.
 fn edited(random: &mut Random, scale: Scale, kind: WriteKind) -> Vec<Record> {
-    let mut editor = Editor::new(&typed(random, scale, 0).records);
+    if kind != WriteKind::Handed {
+        return edited_so(typed(random, scale, 0).records, random, kind);
+    }
+    let (table, used) = solved(random, scale);
+    let records = (0..used).map(|number| get(&table, number)).collect();
+    let kinds =
+        [WriteKind::Appended, WriteKind::Appended, WriteKind::Field, WriteKind::Tag, WriteKind::Twice];
+    let kind = random.pick(&kinds).unwrap_or(WriteKind::Appended);
+    edited_so(records, random, kind)
+}
+
+/// Up to twenty records appended, or one to three edits of another kind.
+fn edited_so(mut records: Vec<Record>, random: &mut Random, kind: WriteKind) -> Vec<Record> {
     if kind == WriteKind::Appended {
+        let mut editor = Editor::new(&records);
         (0..random.between(1, 20)).for_each(|_| editor.append(random, EQ));
         return editor.records;
     }
-    let mut records = editor.records;
     for _ in 0..random.pick(&[1, 1, 1, 2, 3]).unwrap_or(1) {
         let number = random.below(records.len());
         match kind {
@@ -124,19 +145,23 @@ fn solved(random: &mut Random, scale: Scale) -> (Vec<u32>, usize) {
     (Vec::new(), 0)
 }
 
-/// Mostly all the records, now and then a number at a limit or far past it.
-fn some_n(random: &mut Random, count: usize, room: usize) -> usize {
+/// Mostly all the records, now and then a number at a limit, far past it, or just before or behind a broken record.
+fn some_n(random: &mut Random, table: &[u32], count: usize) -> usize {
+    let room = room(table);
+    let known = count.min(room);
     let limits = [2047, 2048, 2049, 4096, 4097];
-    let far = [u64::MAX, u64::MAX / 14 + 1, 1 << 32, (1 << 32) + count.min(room) as u64, (1 << 62) + 1];
-    match random.below(28) {
+    let far = [u64::MAX, u64::MAX / 14 + 1, 1 << 32, (1 << 32) + known as u64, (1 << 62) + 1];
+    match random.below(32) {
         0 => 0,
         1 => 1,
         2 => room,
         3 => room + 1,
         4 => random.pick(&limits).unwrap_or(0),
         5 => random.pick(&far).unwrap_or(0) as usize,
-        6 => random.below(count.min(room) + 1),
+        6 => random.below(known + 1),
         7 => count.saturating_add(random.between(1, 3)),
+        8 | 9 => lowest_broken(table, room).unwrap_or(known),
+        10 => lowest_broken(table, room).map_or(known, |place| place + 1),
         _ => count,
     }
 }
