@@ -12,8 +12,10 @@ mod types;
 mod typing;
 mod walk;
 mod words;
+mod write;
 
 pub use read::read;
 pub use show::show;
 pub use solve::{machine_only, solve};
 pub use words::Reply;
+pub use write::{write, write_only};

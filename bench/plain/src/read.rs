@@ -2,7 +2,7 @@
 
 use crate::words::*;
 
-const RECORD_BYTES: usize = 14;
+pub const RECORD_BYTES: usize = 14;
 const MOST_BYTES: usize = 28_672;
 
 /// Reads the file's records into the table.

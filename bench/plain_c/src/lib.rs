@@ -1,4 +1,4 @@
-//! The plain version behind the three C functions, to stand in for the proved library.
+//! The plain version behind the C functions, to stand in for the proved library.
 
 use std::slice::{from_raw_parts, from_raw_parts_mut};
 
@@ -52,4 +52,17 @@ pub unsafe extern "C" fn tanczotka_read(
     table_len: usize,
 ) -> u64 {
     plain::read(from_raw_parts(file, file_len), from_raw_parts_mut(table, table_len)).packed()
+}
+
+/// # Safety
+/// As for `tanczotka_solve`; the table is only read.
+#[no_mangle]
+pub unsafe extern "C" fn tanczotka_write(
+    table: *const u32,
+    table_len: usize,
+    n: usize,
+    file: *mut u8,
+    file_len: usize,
+) -> u64 {
+    plain::write(from_raw_parts(table, table_len), n, from_raw_parts_mut(file, file_len)).packed()
 }
