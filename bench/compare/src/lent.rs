@@ -1,37 +1,45 @@
-//! Slices lent to the library between words that must stay.
+//! Slices lent to the library between words or bytes that must stay.
 
-/// An odd number of words, so that what is lent is aligned as words and no better.
-const GUARD: [u32; 5] = [0xDEAD_0001, 0xDEAD_0002, 0xDEAD_0003, 0xDEAD_0004, 0xDEAD_0005];
-
-/// A copy of some words with guard words on both sides.
-pub struct Lent {
-    words: Vec<u32>,
+/// What is lent in slices, and what stands on both sides of one.
+pub trait Item: Copy + PartialEq + std::fmt::Debug + 'static {
+    const GUARD: &'static [Self];
 }
 
-impl Lent {
-    pub fn new(words: &[u32]) -> Lent {
-        let mut all = Vec::with_capacity(words.len() + 2 * GUARD.len());
-        all.extend(GUARD);
-        all.extend(words);
-        all.extend(GUARD);
-        Lent { words: all }
+/// An odd number of words, so that what is lent is aligned as words and no better.
+impl Item for u32 {
+    const GUARD: &'static [u32] = &[0xDEAD_0001, 0xDEAD_0002, 0xDEAD_0003, 0xDEAD_0004, 0xDEAD_0005];
+}
+
+/// An odd number of bytes, more than a record of a file has.
+impl Item for u8 {
+    const GUARD: &'static [u8] = b"before and behind";
+}
+
+/// A copy of some words or bytes with guards on both sides.
+pub struct Lent<T> {
+    items: Vec<T>,
+}
+
+impl<T: Item> Lent<T> {
+    pub fn new(items: &[T]) -> Lent<T> {
+        Lent { items: [T::GUARD, items, T::GUARD].concat() }
     }
 
     /// What is lent.
-    pub fn part(&mut self) -> &mut [u32] {
-        let end = self.words.len() - GUARD.len();
-        &mut self.words[GUARD.len()..end]
+    pub fn part(&mut self) -> &mut [T] {
+        let end = self.items.len() - T::GUARD.len();
+        &mut self.items[T::GUARD.len()..end]
     }
 
-    /// Every word as expected, the guards included.
-    pub fn is(&self, expected: &[u32]) -> bool {
-        let (before, rest) = self.words.split_at(GUARD.len());
-        let (part, after) = rest.split_at(rest.len() - GUARD.len());
-        part == expected && before == GUARD && after == GUARD
+    /// Every word or byte as expected, the guards included.
+    pub fn is(&self, expected: &[T]) -> bool {
+        let (before, rest) = self.items.split_at(T::GUARD.len());
+        let (part, after) = rest.split_at(rest.len() - T::GUARD.len());
+        part == expected && before == T::GUARD && after == T::GUARD
     }
 
-    /// The words with the guards, for a report.
-    pub fn all(&self) -> &[u32] {
-        &self.words
+    /// What is lent with the guards, for a report.
+    pub fn all(&self) -> &[T] {
+        &self.items
     }
 }

@@ -1,4 +1,4 @@
-//! Compares the linked library with the independent program on generated problems and files.
+//! Compares the linked library with the independent program on generated problems, files and tables.
 
 mod calls;
 mod extra;
@@ -6,6 +6,7 @@ mod lent;
 mod sizes;
 mod supervise;
 mod tally;
+mod writes;
 
 use calls::Words;
 use independent::generate::files::file_problem;
@@ -16,6 +17,7 @@ use independent::words::{get, HO};
 use std::ops::Range;
 use std::process::ExitCode;
 use tally::Tally;
+use writes::Given;
 
 /// The stack that the deepest legal input may need.
 const STACK: usize = 8 << 20;
@@ -42,7 +44,7 @@ fn main() -> ExitCode {
     }
 }
 
-/// Compares a problem and a file for each index; true if there was no difference.
+/// Compares a problem, a file, an edited and a damaged table for each index; true if there was no difference.
 fn compare(seed: u64, indices: Range<u64>) -> bool {
     let mut tally = Tally::default();
     let count = indices.end.saturating_sub(indices.start);
@@ -56,8 +58,9 @@ fn compare(seed: u64, indices: Range<u64>) -> bool {
             generated(seed, index, &mut random, &mut tally);
         }
         files(seed, index, &mut random, &mut tally);
+        writes::edited_and_damaged(seed, index, &mut random, &mut tally);
     }
-    tally.print(count, count)
+    tally.print(count)
 }
 
 /// A problem of the independent program's generator, with the output and hole that come with it.
@@ -69,7 +72,7 @@ fn generated(seed: u64, index: u64, random: &mut Random, tally: &mut Tally) {
     let words = Words { table: made.table, n: made.n, solutions: made.solutions, queue: made.queue };
     let found = calls::show(&words, made.hole, &made.output);
     tally.count(&format!("show {kind}"), found.answer, &name, found.difference);
-    solve_and_show(&words, &kind, &name, index, random, tally);
+    solve_write_and_show(&words, &kind, &name, index, random, tally);
 }
 
 /// A problem of a family that scales, of any size up to the most records.
@@ -83,14 +86,14 @@ fn large(seed: u64, index: u64, random: &mut Random, tally: &mut Tally) {
     };
     let words = lend(&family.records(nodes), random);
     let name = format!("seed {seed} index {index}: {} of {nodes} nodes", family.name);
-    solve_and_show(&words, "large", &name, index, random, tally);
+    solve_write_and_show(&words, "large", &name, index, random, tally);
 }
 
 /// A problem of a kind that the generator seldom makes.
 fn extra(seed: u64, index: u64, random: &mut Random, tally: &mut Tally) {
     let words = lend(&extra::records(random), random);
     let name = format!("seed {seed} index {index}: extra");
-    solve_and_show(&words, "extra", &name, index, random, tally);
+    solve_write_and_show(&words, "extra", &name, index, random, tally);
 }
 
 /// Slices for these records: mostly with room enough, up to a little more than counts.
@@ -107,10 +110,19 @@ fn lend(records: &[[u32; 4]], random: &mut Random) -> Words {
     Words { table, n: records.len(), solutions, queue }
 }
 
-/// Solve, and show of every hole: with one size class each, now and then with all.
-fn solve_and_show(words: &Words, kind: &str, name: &str, index: u64, random: &mut Random, tally: &mut Tally) {
-    let found = calls::solve(words);
+/// Solve, write what that left, and show every hole: with one size class each, now and then with all.
+fn solve_write_and_show(
+    words: &Words,
+    kind: &str,
+    name: &str,
+    index: u64,
+    random: &mut Random,
+    tally: &mut Tally,
+) {
+    let (found, tables) = calls::solve(words);
     tally.count(&format!("solve {kind}"), found.answer, name, found.difference);
+    let (row, n) = if found.answer == 0 { ("solved", found.used) } else { ("unsolved", words.n) };
+    Given { tables, n, name, index }.write_exact(&format!("write {row} {kind}"), random, tally);
     let mut holes: Vec<usize> = (0..words.n.min(4096)).filter(|&k| get(&words.table, k).tag == HO).collect();
     if kind == "large" {
         random.shuffle(&mut holes);
@@ -140,14 +152,17 @@ fn files(seed: u64, index: u64, random: &mut Random, tally: &mut Tally) {
     let scale = if random.chance(70) { Scale::Small } else { Scale::Usual };
     let made = file_problem(seed, index, scale);
     let name = format!("file of seed {seed} index {index} {scale:?}");
-    let found = calls::read(&made.file, &made.table);
+    let (found, tables) = calls::read(&made.file, &made.table);
     tally.count("read", found.answer, &name, found.difference);
+    if found.answer == 0 {
+        writes::read(&made.file, &tables, &name, random, tally);
+    }
     let all = index.is_multiple_of(ALL_CLASSES_OF);
     let chosen = sizes::some_class(random);
     for (class, class_name) in sizes::CLASSES.iter().enumerate() {
         if all || class == chosen {
             let table = sizes::words(class, made.file.len() / 14, random);
-            let found = calls::read(&made.file, &table);
+            let found = calls::read(&made.file, &table).0;
             tally.count(&format!("read into {class_name}"), found.answer, &name, found.difference);
         }
     }

@@ -1,4 +1,4 @@
-//! Size classes: outputs around what a shown answer needs, tables around what a file needs.
+//! Size classes: outputs, tables and files around what a shown answer, a file and a table need.
 
 use independent::generate::problem::litter;
 use independent::random::Random;
@@ -23,4 +23,25 @@ pub fn words(class: usize, records: usize, random: &mut Random) -> Vec<u32> {
 /// A class at random, the last one rarely: its slices are large.
 pub fn some_class(random: &mut Random) -> usize {
     if random.chance(1) { CLASSES.len() - 1 } else { random.below(CLASSES.len() - 1) }
+}
+
+pub const FILE_CLASSES: [&str; 7] =
+    ["empty", "under 14", "1 byte short", "short", "exact", "1 byte more", "ample"];
+
+/// The number of the class "exact"; those from it on have room.
+pub const EXACT: usize = 4;
+
+/// The bytes of a file of this class where so many records are to be written.
+pub fn bytes(class: usize, records: usize, random: &mut Random) -> Vec<u8> {
+    let needed = 14 * records;
+    let count = match class {
+        0 => 0,
+        1 => random.between(1, 13),
+        2 => needed.saturating_sub(1),
+        3 => random.below(needed),
+        EXACT => needed,
+        5 => needed + 1,
+        _ => needed + random.between(2, 90),
+    };
+    litter(random, count).into_iter().map(|word| word as u8).collect()
 }

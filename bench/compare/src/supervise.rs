@@ -8,7 +8,8 @@ pub fn all(seed: u64, count: u64) -> ExitCode {
         Some(0) => ExitCode::SUCCESS,
         Some(_) => ExitCode::from(1),
         None => {
-            println!("the comparison died on the problem or file of seed {seed} index {}", death(seed, count));
+            let index = death(seed, count);
+            println!("the comparison died on the problem, file or tables of seed {seed} index {index}");
             ExitCode::from(1)
         }
     }

@@ -3,7 +3,7 @@
 use std::collections::BTreeMap;
 
 const MOST_SHOWN: usize = 5;
-const ANSWERS: usize = 14;
+const ANSWERS: usize = 15;
 
 /// Counts of comparisons and the differences found.
 #[derive(Default)]
@@ -30,17 +30,19 @@ impl Tally {
     }
 
     /// Prints the counts; true if there was no difference.
-    pub fn print(&self, problems: u64, files: u64) -> bool {
-        println!("{:<22}{:>11} | by answer", "compared", "in all");
+    pub fn print(&self, problems: u64) -> bool {
+        println!("{:<24}{:>11} | by answer", "compared", "in all");
         let mut all = 0;
         for (row, counts) in &self.rows {
             let sum: u64 = counts.iter().sum();
             all += sum;
             let by_answer = counts.iter().enumerate().filter(|(_, &count)| count > 0);
             let by_answer: Vec<String> = by_answer.map(|(answer, count)| format!("{answer}: {count}")).collect();
-            println!("{row:<22}{sum:>11} | {}", by_answer.join(", "));
+            println!("{row:<24}{sum:>11} | {}", by_answer.join(", "));
         }
-        println!("problems: {problems}, files: {files}, calls compared: {all}, differences: {}", self.differences);
+        let tables = 2 * problems;
+        print!("problems: {problems}, files: {problems}, tables: {tables}, ");
+        println!("calls compared: {all}, differences: {}", self.differences);
         self.differences == 0
     }
 }
