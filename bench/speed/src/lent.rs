@@ -1,10 +1,12 @@
-//! The words that are lent for one problem.
+//! What is lent for one problem: to solve it, to write it.
 
+use crate::measure::{Measured, Said};
 use families::build::Record;
 
 /// R and C are never higher.
 pub const MOST_RECORDS: usize = 4096;
 pub const MOST_PAIRS: usize = 1024;
+const RECORD_BYTES: usize = 14;
 
 /// Table, solutions and queue.
 #[derive(Clone, PartialEq, Eq)]
@@ -39,19 +41,53 @@ impl Lent {
         }
         Lent::new(records, enough, pairs)
     }
+}
 
-    pub fn library(&mut self) -> (u16, u16, u16) {
+impl Measured for Lent {
+    fn library(&mut self) -> Said {
         let reply = tanczotka::solve(&mut self.table, self.n, &mut self.solutions, &mut self.queue);
         (reply.answer, reply.place, reply.used)
     }
 
-    pub fn plain(&mut self) -> (u16, u16, u16) {
+    fn plain(&mut self) -> Said {
         let reply = plain::solve(&mut self.table, self.n, &mut self.solutions, &mut self.queue);
         (reply.answer, reply.place, reply.used)
     }
 
-    pub fn machine_only(&mut self) -> (u16, u16, u16) {
+    fn machine_only(&mut self) -> Said {
         let reply = plain::machine_only(&mut self.table, self.n, &mut self.solutions, &mut self.queue);
+        (reply.answer, reply.place, reply.used)
+    }
+}
+
+/// A table and the file that it is written to.
+#[derive(Clone, PartialEq, Eq)]
+pub struct Written {
+    table: Vec<u32>,
+    n: usize,
+    file: Vec<u8>,
+}
+
+impl Written {
+    /// A table of these records alone, and a file of exactly its length.
+    pub fn fitting(records: &[Record]) -> Written {
+        Written { table: records.concat(), n: records.len(), file: vec![0; RECORD_BYTES * records.len()] }
+    }
+}
+
+impl Measured for Written {
+    fn library(&mut self) -> Said {
+        let reply = tanczotka::write(&self.table, self.n, &mut self.file);
+        (reply.answer, reply.place, reply.used)
+    }
+
+    fn plain(&mut self) -> Said {
+        let reply = plain::write(&self.table, self.n, &mut self.file);
+        (reply.answer, reply.place, reply.used)
+    }
+
+    fn machine_only(&mut self) -> Said {
+        let reply = plain::write_only(&self.table, self.n, &mut self.file);
         (reply.answer, reply.place, reply.used)
     }
 }

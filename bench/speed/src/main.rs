@@ -1,11 +1,13 @@
-//! Measures the linked library's solve against the plain version on families that scale.
+//! Measures the linked library against the plain version: solving families that scale, and writing.
 
 mod lent;
 mod measure;
 mod processes;
+mod subjects;
 
 use measure::*;
 use std::process::ExitCode;
+use subjects::Subject;
 
 /// A row above this ratio is slow.
 const MOST_RATIO: f64 = 1.25;
@@ -22,7 +24,7 @@ struct Summary {
     logarithms: f64,
 }
 
-/// Measures the families whose name contains the word given, or all.
+/// Measures the families whose name contains the word given, or all, writing among them.
 fn main() -> ExitCode {
     let words: Vec<String> = std::env::args().skip(1).collect();
     let words: Vec<&str> = words.iter().map(String::as_str).collect();
@@ -44,9 +46,9 @@ fn table(part: &str) -> Result<(), String> {
     println!("| family | size | records | nodes | library ns | plain ns | ratio | plain machine alone ns | library ns per node | plain ns per node | growth of cost per node | |");
     println!("|---|---|---:|---:|---:|---:|---:|---:|---:|---:|---|---|");
     let mut summary = Summary::default();
-    for (number, family) in families::ALL.iter().enumerate() {
-        if family.name.contains(part) {
-            one_family(number, &mut summary).map_err(|error| format!("{}: {error}", family.name))?;
+    for (number, subject) in subjects::all().iter().enumerate() {
+        if subject.name().contains(part) {
+            one_subject(number, subject, &mut summary).map_err(|error| format!("{}: {error}", subject.name()))?;
         }
     }
     let mean = (summary.logarithms / f64::from(summary.rows.max(1))).exp();
@@ -58,16 +60,15 @@ fn table(part: &str) -> Result<(), String> {
     Ok(())
 }
 
-fn one_family(number: usize, summary: &mut Summary) -> Result<(), String> {
-    let family = &families::ALL[number];
-    let rows = processes::rows(family);
-    let nodes: Vec<f64> = rows.iter().map(|row| families::nodes(&row.records) as f64).collect();
+fn one_subject(number: usize, subject: &Subject, summary: &mut Summary) -> Result<(), String> {
+    let rows = subject.rows();
+    let nodes: Vec<f64> = rows.iter().map(|row| subject.nodes(row) as f64).collect();
     let found = processes::in_several(number, rows.len())?;
     for (which, row) in found.into_iter().enumerate() {
         let growth = [LIBRARY_GROWTH, PLAIN_GROWTH].map(|column| row[column] * nodes[1] / nodes[which]);
         let slow = row[RATIO] > MOST_RATIO;
         let growing = which == 2 && growth[0] > MOST_GROWTH * growth[1];
-        print!("| {} | {} | {} | {} ", family.name, rows[which].size, rows[which].records.len(), nodes[which]);
+        print!("| {} | {} | {} | {} ", subject.name(), rows[which].size, rows[which].records.len(), nodes[which]);
         print!("| {:.0} | {:.0} | {:.2} ", row[LIBRARY], row[PLAIN], row[RATIO]);
         print!("| {:.0} | {:.1} ", row[MACHINE_ALONE], row[LIBRARY] / nodes[which]);
         print!("| {:.1} | ", row[PLAIN] / nodes[which]);
