@@ -26,8 +26,9 @@ struct Pass {
     marks: Stack<u8, MOST_RECORDS>,
 }
 
-/// The lowest of these records that breaks a rule; fills in the equations.
-pub fn lowest_broken(table: &[Record], equations: &mut Equations) -> Option<usize> {
+/// The lowest of these records that breaks a rule; hands over the number of each equation passed.
+#[inline(always)]
+pub fn lowest_broken(table: &[Record], mut equation: impl FnMut(u16)) -> Option<usize> {
     let mut pass = Pass { marks: Stack::new() };
     let mut types = Types::new();
     let mut broken = None;
@@ -37,7 +38,7 @@ pub fn lowest_broken(table: &[Record], equations: &mut Equations) -> Option<usiz
             break;
         };
         if mark == mark::EQUATION {
-            equations.push(number as u16);
+            equation(number as u16);
         }
         pass.marks.push(mark);
     }

@@ -53,7 +53,7 @@ pub fn parts<'a>(
 
 /// Answers 5, 10, 6 and 7 in this order; fills in the equations.
 pub fn check(input: &[Record], hole: Option<usize>, equations: &mut Equations) -> Option<Reply> {
-    if let Some(place) = lowest_broken(input, equations) {
+    if let Some(place) = lowest_broken(input, |number| equations.push(number)) {
         return Some(Reply::refused(5, place));
     }
     if let Some(hole) = hole {

@@ -1,7 +1,7 @@
 //! Writing a problem file: the first n records as 14 bytes each, a mark and three little-endian fields.
 
 use crate::read::RECORD_BYTES;
-use crate::records::{lowest_broken, Equations};
+use crate::records::lowest_broken;
 use crate::words::*;
 
 const MOST_WRITTEN: usize = 2048;
@@ -23,7 +23,7 @@ pub fn write(table: &[u32], n: usize, file: &mut [u8]) -> Reply {
     let Some(records) = first(table, n) else {
         return Reply::refused(4, 0);
     };
-    if let Some(place) = lowest_broken(records, &mut Equations::new()) {
+    if let Some(place) = lowest_broken(records, |_| ()) {
         return Reply::refused(5, place);
     }
     put(records, file)
