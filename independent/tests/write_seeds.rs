@@ -99,7 +99,7 @@ fn n_ends_just_before_and_just_behind_a_broken_record() {
 fn tables_that_solving_does_not_solve_are_written_and_written_after_it_too() {
     let mut met = [0; 14];
     let mut handed = [0; 15];
-    for index in 0..1500 {
+    for index in 0..600 {
         let given = write_problem(12, index, Scale::Small);
         let report = check_write(&given);
         if report.answer == 0 {
