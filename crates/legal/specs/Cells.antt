@@ -11,9 +11,8 @@ use borrow.Author.Tests.{lt-ltb, eq-eqb, leb-true}
 use Rattle.rules.specs.Lists.{both, either}
 use Rattle.rules.specs.Words.{NONE, CE, tag, fieldA, fieldB, fieldC, has, isType, isTerm, elements}
 use Rattle.rules.specs.Records.{element as an-element, rest as a-rest, shapes, fits, alike, listed, reference}
-use Rattle.laws.specs.Tests.{both-true}
+use Rattle.laws.specs.Tests.{both-true, both-yes, either-left, has-yes}
 use Rattle.laws.specs.Members.{Begins}
-use Rattle.promise.specs.Tests.{both-yes, either-left, has-yes}
 use Rattle.legal.specs.Uses.{first-all}
 use Rattle.legal.specs.Stay.{either-right, cells-listed}
 use Rattle.legal.specs.Right.{Right, Counts, made, lists}

@@ -11,11 +11,10 @@ use Rattle.rules.specs.Words.{HO, HA, tag, fieldA, has, variables}
 use Rattle.rules.specs.Store.{Store, solved, solution}
 use Rattle.rules.specs.Map.{targets, toVariables, follow}
 use Rattle.rules.specs.Rewrite.{keepHole, copy, expand}
-use Rattle.laws.specs.Tests.{both-true}
+use Rattle.laws.specs.Tests.{both-true, tag-is as tag-of}
 use Rattle.laws.specs.Sound.{hole-head}
 use Rattle.invariants.specs.Floor.{All}
 use Rattle.invariants.specs.Grow.{all-map}
-use Rattle.promise.specs.Tests.{tag-is as tag-of}
 use Rattle.promise.specs.Reading.{same-refl}
 use Rattle.promise.specs.Outcomes.{unsaid}
 use Rattle.legal.specs.Reading.{arity, arity-same, arity-few}

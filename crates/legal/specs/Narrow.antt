@@ -11,10 +11,10 @@ use lib.Seq.{getD-set-other, getD-set-same}
 use Rattle.rules.specs.Words.{NONE, BT, HO, tag, fieldA, fieldB, isType, elements}
 use Rattle.rules.specs.Store.{Store, push, settle}
 use Rattle.rules.specs.Walk.{narrow}
+use Rattle.laws.specs.Tests.{tag-is as tag-of}
 use Rattle.laws.specs.Sound.{hole-base}
 use Rattle.invariants.specs.Floor.{All}
 use Rattle.invariants.specs.Grow.{all-map}
-use Rattle.promise.specs.Tests.{tag-is as tag-of}
 use Rattle.promise.specs.Outcomes.{ended}
 use Rattle.legal.specs.Stay.{tag-same, elements-same}
 use Rattle.legal.specs.Cells.{some-types}

@@ -8,13 +8,12 @@ use native.Mathlib.Decide.{ℕ-discrete}
 use lib.ListN.{length}
 use borrow.Author.Tests.{leb-true, le-leb}
 use Rattle.rules.specs.Words.{NONE, HO, CA, VA, HA, tag, fieldA, fieldB, isType, isTerm, cells, elements, arguments, variables}
-use Rattle.laws.specs.Tests.{both-true}
+use Rattle.laws.specs.Tests.{both-true, both-yes}
 use Rattle.laws.specs.Sound.{Sound, hole-context, constant-list, variable-list, hole-list, Follows, follows-type, follows-term}
 use Rattle.laws.specs.Lists.{cells-none, cells-more, elements-none}
 use Rattle.laws.specs.Members.{Legal, Every, none, more, every-so, map-same, Begins, begins, rest-begins, elements-every}
 use Rattle.invariants.specs.Floor.{All}
 use Rattle.invariants.specs.Input.{few-cells}
-use Rattle.promise.specs.Tests.{both-yes}
 use Rattle.promise.specs.Reading.{Same}
 use Rattle.legal.specs.Stay.{a-same, b-same, elements-same}
 

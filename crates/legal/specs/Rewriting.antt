@@ -13,10 +13,10 @@ use Rattle.rules.specs.Words.{KO, LA, CA, VA, tag, fieldA, has, isTerm, form, h
 use Rattle.rules.specs.Store.{Store}
 use Rattle.rules.specs.Map.{Map, placeOf}
 use Rattle.rules.specs.Rewrite.{Writer, writeTerm}
+use Rattle.laws.specs.Tests.{tag-is as tag-of}
 use Rattle.laws.specs.Sound.{lambda-field, constant-head}
 use Rattle.invariants.specs.Grow.{all-map}
 use Rattle.invariants.specs.Forms.{form-6, form-7, form-8}
-use Rattle.promise.specs.Tests.{tag-is as tag-of}
 use Rattle.legal.specs.Stay.{tag-same, elements-same}
 use Rattle.legal.specs.Reading.{term-tag, all-both, arguments-terms, few-arguments}
 use Rattle.legal.specs.Scope.{Scopes, scope-level, lambda-scope, applied-scope, Part, part-on}

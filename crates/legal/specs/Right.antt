@@ -12,12 +12,11 @@ use Rattle.rules.specs.Lists.{both, either, all, any, among, distinct, those, b
 use Rattle.rules.specs.Words.{NONE, HO, CE, LA, CA, VA, HA, BT, KO, tag, fieldA, fieldB, fieldC, isType, isTerm}
 use Rattle.rules.specs.Records.{Field, Shape, never, nil, any-number, small, type as a-type, base as a-base, constant as a-constant, hole as a-hole, term as a-term, types as some-types, terms as some-terms}
 use Rattle.rules.specs.Records.{element as an-element, rest as a-rest, shapes, shape, fits, shaped, listed, new-type, first-cell, reference, uses, first-use, keeps}
-use Rattle.laws.specs.Tests.{both-true, both-no}
+use Rattle.laws.specs.Tests.{both-true, both-no, both-yes, either-left, has-yes}
 use Rattle.laws.specs.Members.{Begins}
 use Rattle.invariants.specs.Floor.{All}
 use Rattle.invariants.specs.Grow.{all-map}
 use Rattle.invariants.specs.Pairs.{all-append}
-use Rattle.promise.specs.Tests.{both-yes, either-left, has-yes}
 use Rattle.legal.specs.Uses.{those-all, first-all}
 use Rattle.legal.specs.Stay.{begins-list, no-cell, below-all}
 

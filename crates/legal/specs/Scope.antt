@@ -8,11 +8,11 @@ use native.Mathlib.Omega.{arith}
 use lib.ListN.{length}
 use Rattle.rules.specs.Words.{HO, LA, VA, HA, tag, fieldA, isTerm, arguments, variables}
 use Rattle.rules.specs.Store.{Store}
+use Rattle.laws.specs.Tests.{tag-is}
 use Rattle.laws.specs.Sound.{lambda-field, hole-head}
 use Rattle.laws.specs.Members.{Legal}
 use Rattle.invariants.specs.Floor.{All}
 use Rattle.invariants.specs.Grow.{all-map}
-use Rattle.promise.specs.Tests.{tag-is}
 use Rattle.promise.specs.Reading.{Same}
 use Rattle.legal.specs.Stay.{tag-same, a-same, term-same}
 use Rattle.legal.specs.Reading.{all-both, arity, arguments-terms, arguments-same, variables-same, arity-same}

@@ -11,6 +11,7 @@ use Rattle.rules.specs.Answers.{records}
 use Rattle.rules.specs.Store.{Store}
 use Rattle.rules.specs.Machine.{Pair, equations, steps, machine}
 use Rattle.rules.specs.Solve.{start}
+use Rattle.laws.specs.Tests.{tag-is}
 use Rattle.laws.specs.Sound.{equation-fields}
 use Rattle.laws.specs.Members.{Legal}
 use Rattle.invariants.specs.Floor.{All}
@@ -18,7 +19,6 @@ use Rattle.invariants.specs.Grow.{all-map}
 use Rattle.invariants.specs.Start.{filled-below, records-room}
 use Rattle.trees.specs.Tree.{Tree, HasTy, at}
 use Rattle.trees.specs.Tree.{Ty}
-use Rattle.promise.specs.Tests.{tag-is}
 use Rattle.promise.specs.Table.{constants, holes}
 use Rattle.promise.specs.Reading.{Same, one, Reads, reads-later}
 use Rattle.promise.specs.State.{reads-below}

@@ -13,14 +13,13 @@ use Rattle.rules.specs.Lists.{both, either, all, among, from, below}
 use Rattle.rules.specs.Words.{NONE, CE, tag, fieldA, fieldB, fieldC, has, isType, isTerm, cells, elements}
 use Rattle.rules.specs.Records.{Field, never, nil, any-number, small, type as a-type, base as a-base, constant as a-constant, hole as a-hole, term as a-term, types as some-types, terms as some-terms}
 use Rattle.rules.specs.Records.{element as an-element, rest as a-rest, shape, listOf, fits, shaped, alike, listed, new-type, uses, first-use, keeps}
-use Rattle.laws.specs.Tests.{both-true, either-true}
+use Rattle.laws.specs.Tests.{both-true, either-true, both-yes, either-left, has-yes, tag-is}
 use Rattle.laws.specs.Sound.{Sound, cell-element, cell-rest}
 use Rattle.laws.specs.Lists.{cells-none, cells-more, elements-kept}
 use Rattle.laws.specs.Members.{Legal, Begins, cell}
 use Rattle.invariants.specs.Floor.{All}
 use Rattle.invariants.specs.Grow.{all-map}
 use Rattle.invariants.specs.Input.{few-cells}
-use Rattle.promise.specs.Tests.{both-yes, either-left, has-yes, tag-is}
 use Rattle.promise.specs.Reading.{Same}
 use Rattle.legal.specs.Uses.{uses-same}
 

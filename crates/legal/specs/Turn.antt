@@ -12,12 +12,11 @@ use Rattle.rules.specs.Words.{LA, CA, VA, HA, tag, fieldA, has, isTerm, argumen
 use Rattle.rules.specs.Store.{Store, Out, goes, _>>=_}
 use Rattle.rules.specs.Walk.{narrow, assign}
 use Rattle.rules.specs.Machine.{Pair, Next, done, zip, join, agreeing, sameHole, solveOne, sameHead, meet, step, upcoming, run}
-use Rattle.laws.specs.Tests.{both-true, either-true}
+use Rattle.laws.specs.Tests.{both-true, either-true, tag-is as tag-of}
 use Rattle.laws.specs.Sound.{lambda-field}
 use Rattle.invariants.specs.Floor.{All}
 use Rattle.invariants.specs.Grow.{all-map}
 use Rattle.invariants.specs.Pairs.{all-append, agreeing-few}
-use Rattle.promise.specs.Tests.{tag-is as tag-of}
 use Rattle.promise.specs.Outcomes.{unsaid}
 use Rattle.legal.specs.Reading.{arity, all-both, arguments-terms}
 use Rattle.legal.specs.Scope.{Scopes, scope-level}
