@@ -5,156 +5,23 @@ use checks::out_of_room;
 use checks::refuse;
 use checks::refusing;
 use checks::room_of;
-use machine::Ran;
 use machine::machine;
-use rules::Failure;
 use rules::Refused;
 use rules::Reply;
 use show::answer;
 use store::Walked;
-use store::clear;
 use store::fill;
-use store::first_unused;
 use table::Hole;
 ghost use mathlib.Core.Path.{_≡_};
 ghost use Prim.Native.Nat.{_*_, _≤_};
 ghost use lib.ListN.{length};
-ghost use Rattle.rules.specs.Answers.{too-few, pairs, number};
-ghost use Rattle.rules.specs.Solve.{admitted, solve as solveOf};
+ghost use Rattle.rules.specs.Answers.{too-few};
+ghost use Rattle.rules.specs.Solve.{solve as solveOf};
 ghost use Rattle.rules.specs.Show.{show as showOf};
-ghost use Rattle.machine.specs.Start.{Started};
-ghost use Rattle.checks.specs.Refusing.{refusalOf};
-ghost use Rattle.solver.specs.Behind.{LeftBehind, AskedLeaves};
-ghost use Rattle.solver.specs.Running.{Machines, Runs, Admits};
-ghost use Rattle.solver.specs.Leaving.{Inside, Checking, UnlessRefused};
+ghost use Rattle.solver.specs.Checking.{Inside, Checking, AskedLeaves};
 ghost use Rattle.solver.specs.Answering.{Answerable, Writes, ShowReply};
 
-// C: the length divided by 2, rounded down, at most 1,024.
-fn pairs_of(queue: &[u32]) -> usize
-    ensures { λ r. ⌜ pairs (now (queue .entry)) ≡ r ⌝ }
-{
-    let k = queue.len() / 2;
-    if k < 1024 {
-        return k;
-    }
-    1024
-}
-
-// This paper's number of each failure of the machine.
-fn number_of(failure: Failure) -> u32
-    ensures { λ r. ⌜ number failure ≡ r ⌝ }
-{
-    match failure {
-        Failure::Clash => 1,
-        Failure::Escape => 2,
-        Failure::Occurs => 3,
-        Failure::QueueFull => 8,
-        Failure::TableFull => 9,
-    }
-}
-
-// The machine, with the first C pairs of the queue lent on.
-fn lend_pairs(
-    table: &mut [u32],
-    solutions: &mut [u32],
-    queue: &mut [u32],
-    equations: &[u16],
-    count: usize,
-    n: u32,
-    room: u32,
-    cap: usize,
-) -> Ran
-    requires { ⌜ Started room n (now table) (now solutions) (now queue) cap (now equations) count ⌝ }
-    ensures { λ r. ⌜ Machines room cap n (now (table .entry)) (now (solutions .entry)) (now (queue .entry)) (now (table .exit)) (now (solutions .exit)) (now (queue .exit)) r ⌝ }
-{
-    let end = 2 * cap;
-    machine(
-        table,
-        solutions,
-        &mut queue[0..end],
-        equations,
-        count,
-        n,
-        room,
-        cap,
-    )
-}
-
-// The machine runs from a cleared table, and the queue is emptied.
-fn run_machine(
-    table: &mut [u32],
-    solutions: &mut [u32],
-    queue: &mut [u32],
-    equations: &[u16],
-    count: usize,
-    n: u32,
-    room: u32,
-) -> Ran
-    requires { ⌜ Admits room n (now table) (now solutions) (now equations) count ⌝ }
-    ensures { λ r. ⌜ Runs room n (now (table .entry)) (now (solutions .entry)) (now (queue .entry)) (now (table .exit)) (now (solutions .exit)) (now (queue .exit)) r ⌝ }
-{
-    let cap = pairs_of(queue);
-    clear(table, solutions, n, room);
-    let outcome = lend_pairs(table, solutions, queue, equations, count, n, room, cap);
-    fill(queue, 0, 2 * cap, 0);
-    outcome
-}
-
-// An admitted input: the reply to what the machine came to. A failure leaves table and solutions cleared: past the records written they
-// still are.
-fn solve_admitted(
-    table: &mut [u32],
-    solutions: &mut [u32],
-    queue: &mut [u32],
-    equations: &[u16],
-    count: usize,
-    n: u32,
-    room: u32,
-) -> Reply
-    requires { ⌜ Admits room n (now table) (now solutions) (now equations) count ⌝ }
-    ensures { λ r. ⌜ LeftBehind admitted (now (table .entry)) (now (solutions .entry)) (now (queue .entry)) n (now (table .exit)) (now (solutions .exit)) (now (queue .exit)) r ⌝ }
-{
-    match run_machine(table, solutions, queue, equations, count, n, room) {
-        Ran::Solved(records) => Reply {
-            answer: 0,
-            place: 0,
-            used: records,
-        },
-        Ran::Failed(failure) => {
-            let answer = number_of(failure);
-            let used = first_unused(table, n, room);
-            clear(table, solutions, n, used);
-            Reply {
-                answer,
-                place: 0,
-                used: 0,
-            }
-        }
-    }
-}
-
-// A refusal writes nothing; otherwise the machine runs with the equations that were noted.
-fn solve_unless_refused(
-    table: &mut [u32],
-    n: u32,
-    solutions: &mut [u32],
-    queue: &mut [u32],
-    equations: &[u16],
-    refusal: Refusal,
-) -> Reply
-    requires { ⌜ UnlessRefused (now table) (now solutions) (now equations) n refusal ⌝ }
-    ensures { λ r. ⌜ LeftBehind (refusalOf refusal) (now (table .entry)) (now (solutions .entry)) (now (queue .entry)) n (now (table .exit)) (now (solutions .exit)) (now (queue .exit)) r ⌝ }
-{
-    match refusal {
-        Refusal::Refused(refused) => refusing(refused),
-        Refusal::Admitted { count } => {
-            let room = room_of(table);
-            solve_admitted(table, solutions, queue, equations, count, n, room)
-        }
-    }
-}
-
-// Answers 5, 10, 6 and 7, and otherwise the machine.
+// Answers 5, 10, 6 and 7, which write nothing; otherwise the machine runs with the equations that were noted.
 fn check_and_solve(
     table: &mut [u32],
     n: u32,
@@ -169,8 +36,13 @@ fn check_and_solve(
     requires { ⌜ Checking (now table) (now solutions) (now marks) (now last) (now before) (now equations) n ⌝ }
     ensures { λ r. ⌜ AskedLeaves asked (now (table .entry)) (now (solutions .entry)) (now (queue .entry)) n (now (table .exit)) (now (solutions .exit)) (now (queue .exit)) r ⌝ }
 {
-    let refusal = refuse(table, marks, last, before, equations, n, asked);
-    solve_unless_refused(table, n, solutions, queue, equations, refusal)
+    match refuse(table, marks, last, before, equations, n, asked) {
+        Refusal::Refused(refused) => refusing(refused),
+        Refusal::Admitted { count } => {
+            let room = room_of(table);
+            machine(table, solutions, queue, equations, count, n, room)
+        }
+    }
 }
 
 // The checks with arrays for at most 256 records, which cost a small problem little to clear; then the machine.

@@ -1,12 +1,9 @@
 -- `solver::check_all` meets its contract.
-use Rattle.solver.specs.Leaving.{zeros-serve}
+use Rattle.solver.proofs.Leaving.{zeros-serve}
 use native.Mathlib.Omega.{arith}
 use borrow.Author.Needs.{needs}
 use Rattle.solver.proofs.check_all.Statement.{statement}
 use Rattle.solver.proofs.check_all.Tie as tie
-use Rattle.solver.proofs.check_all.Reads as reads
-use Rattle.solver.proofs.check_all.Lts as lts
-use Rattle.solver.proofs.check_and_solve.Reads as check-and-solve-reads
 
 pub check-all-spec : {M : Type 1} → statement M
 check-all-spec =

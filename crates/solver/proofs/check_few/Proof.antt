@@ -1,12 +1,9 @@
 -- `solver::check_few` meets its contract.
-use Rattle.solver.specs.Leaving.{zeros-serve}
+use Rattle.solver.proofs.Leaving.{zeros-serve}
 use native.Mathlib.Omega.{arith}
 use borrow.Author.Needs.{needs}
 use Rattle.solver.proofs.check_few.Statement.{statement}
 use Rattle.solver.proofs.check_few.Tie as tie
-use Rattle.solver.proofs.check_few.Reads as reads
-use Rattle.solver.proofs.check_few.Lts as lts
-use Rattle.solver.proofs.check_and_solve.Reads as check-and-solve-reads
 
 pub check-few-spec : {M : Type 1} → statement M
 check-few-spec =

@@ -1,11 +1,8 @@
 -- `solver::reply_to_show` meets its contract.
-use Rattle.solver.specs.Answering.{show-replied, show-failed}
+use Rattle.solver.proofs.Answering.{show-replied, show-failed}
 use borrow.Author.Needs.{needs}
 use Rattle.solver.proofs.reply_to_show.Statement.{statement}
 use Rattle.solver.proofs.reply_to_show.Tie as tie
-use Rattle.solver.proofs.reply_to_show.Reads as reads
-use Rattle.solver.proofs.reply_to_show.Lts as lts
-use Rattle.store.proofs.fill.Reads as fill-reads
 
 pub reply-to-show-spec : {M : Type 1} → statement M
 reply-to-show-spec =

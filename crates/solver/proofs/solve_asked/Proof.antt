@@ -1,13 +1,8 @@
 -- `solver::solve_asked` meets its contract.
-use Rattle.solver.specs.Leaving.{left-outside, inside-fits, inside-few, inside-most}
+use Rattle.solver.proofs.Leaving.{left-outside, inside-fits, inside-few, inside-most}
 use borrow.Author.Needs.{needs}
 use Rattle.solver.proofs.solve_asked.Statement.{statement}
 use Rattle.solver.proofs.solve_asked.Tie as tie
-use Rattle.solver.proofs.solve_asked.Reads as reads
-use Rattle.solver.proofs.solve_asked.Lts as lts
-use Rattle.checks.proofs.out_of_room.Reads as out-of-room-reads
-use Rattle.solver.proofs.check_few.Reads as check-few-reads
-use Rattle.solver.proofs.check_all.Reads as check-all-reads
 
 -- the input was found to lie within its words
 few-requires : tie.Need-check-few-requires

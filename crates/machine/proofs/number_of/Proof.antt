@@ -1,10 +1,8 @@
--- `solver::number_of` meets its contract.
-use Rattle.solver.specs.Running.{is-clash, is-escape, is-occurs, is-queue-full, is-table-full}
+-- `machine::number_of` meets its contract.
+use Rattle.machine.proofs.Numbers.{is-clash, is-escape, is-occurs, is-queue-full, is-table-full}
 use borrow.Author.Needs.{needs}
-use Rattle.solver.proofs.number_of.Statement.{statement}
-use Rattle.solver.proofs.number_of.Tie as tie
-use Rattle.solver.proofs.number_of.Reads as reads
-use Rattle.solver.proofs.number_of.Lts as lts
+use Rattle.machine.proofs.number_of.Statement.{statement}
+use Rattle.machine.proofs.number_of.Tie as tie
 
 pub number-of-spec : {M : Type 1} → statement M
 number-of-spec =

@@ -27,7 +27,7 @@ use Rattle.invariants.specs.Start.{records-few}
 use Rattle.invariants.specs.Admit.{Says, refusal-says}
 use Rattle.invariants.specs.Machine.{machine-grows}
 use Rattle.invariants.specs.Answers.{show-says}
-use Rattle.solver.specs.Running.{machine-none}
+use Rattle.machine.specs.MachineLaws.{machine-none}
 
 -- what is refused uses none
 refusing-none : (x : Refused) → refusing x .used ≡ 0
