@@ -1,4 +1,4 @@
--- What show leaves, refused or answered.
+-- What solve leaves, and show, refused or answered.
 use Prim.Native.Nat.{ℕ, zero, suc}
 use mathlib.Core.Path.{_≡_, refl, ap, _∙_}
 use mathlib.Core.List.{List}
@@ -6,14 +6,18 @@ use native.Mathlib.Omega.{arith}
 use mir.Syntax.{w32}
 use mir.Val.{Fits}
 use Rattle.rules.specs.declared.Reply.{Reply}
-use Rattle.rules.specs.Solve.{refusal, Behind, leaves}
+use Rattle.rules.specs.Solve.{refusal, Behind, leaves, solve}
 use Rattle.rules.specs.Show.{Shown, shows, show}
 use Rattle.checks.specs.declared.Asked.{Asked}
-use Rattle.checks.specs.declared.Asked.the-variants.{Record as Asking}
+use Rattle.checks.specs.declared.Asked.the-variants.{Solving, Record as Asking}
 use Rattle.checks.specs.Refusing.{asks, isHole}
-use Rattle.solver.specs.Checking.{AskedLeaves}
+use Rattle.solving.specs.Checking.{AskedLeaves}
 use Rattle.solver.specs.Answering.{Writes}
 use Rattle.solver.specs.AnsweringLaws.{answerable}
+
+pub solves : (ws ss qs : List ℕ) (n : ℕ) (l : Behind) → leaves (refusal (asks Solving ws n) ws ss n) ws ss qs n ≡ l → solve ws ss qs n ≡ l
+unfolding solve asks
+solves ws ss qs n l h = h
 
 some-answer : (a b : Shown) (k : ℕ) → (k ≡ 0 → ⊥) → elim k [ zero ↦ a | suc j ↦ b ] ≡ b
 some-answer a b zero ne = absurd (ne refl)

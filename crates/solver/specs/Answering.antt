@@ -1,19 +1,15 @@
 -- A hole's answer after solving.
-use Prim.Native.Nat.{ℕ, _*_, _<_}
+use Prim.Native.Nat.{ℕ, _<_}
 use mathlib.Core.Path.{_≡_}
 use mathlib.Core.List.{List}
 use lib.ListN.{length}
-use Rattle.rules.specs.declared.Failure.{Failure}
 use Rattle.rules.specs.declared.Reply.{Reply}
 use Rattle.rules.specs.Lists.{below}
 use Rattle.rules.specs.Map.{toVariables}
 use Rattle.rules.specs.Words.{fieldA, elements}
-use Rattle.rules.specs.Answers.{reply, too-few}
-use Rattle.rules.specs.Solve.{filled, Behind}
+use Rattle.rules.specs.Solve.{Behind}
 use Rattle.rules.specs.Show.{answering, shows}
 use Rattle.promise.specs.ShowKnown.{HoleKnown}
-use Rattle.store.specs.declared.Walked.{Walked}
-use Rattle.store.specs.declared.Walked.the-variants.{Root, Failed}
 use Rattle.store.specs.Said.{store}
 use Rattle.places.specs.Lists.{Counts}
 use Rattle.show.specs.Ready.{Final}
@@ -24,11 +20,6 @@ pub record Answerable (ws ss : List ℕ) (h : ℕ) : Type 0 where
   pub hole : h < table .used
   pub context : Counts ws (fieldA ws h)
   pub known : HoleKnown (table .R) (store ws ss (table .used)) (toVariables 0 (below (length (elements ws (fieldA ws h))))) h
-
--- the reply, and the words left
-pub record ShowReply (O : ℕ) (os : List ℕ) (x : Walked) (os₁ : List ℕ) (r : Reply) : Type 0 where
-  pub root : (t u : ℕ) → x ≡ Root t u → (os ≡ os₁) × (reply 0 0 u ≡ r)
-  pub failed : (e : Failure) → x ≡ Failed e → (filled 0 (4 * O) 0 os ≡ os₁) × (too-few ≡ r)
 
 -- after solving answered 0, show writes this and replies so
 pub record Writes (ws ss : List ℕ) (h : ℕ) (os os₁ : List ℕ) (r : Reply) : Type 0 where

@@ -37,7 +37,7 @@ use Rattle.promise.specs.ShowKnown.{hole-in-order}
 use Rattle.checks.specs.declared.Asked.{Asked}
 use Rattle.checks.specs.declared.Asked.the-variants.{Record as Asking}
 use Rattle.checks.specs.Refusing.{asks, isHole}
-use Rattle.solver.specs.Checking.{AskedLeaves}
+use Rattle.solving.specs.Checking.{AskedLeaves}
 use Rattle.solver.specs.Answering.{Answerable}
 
 -- the machine's end on an input hole

@@ -1,4 +1,3 @@
-pub mod Checking  -- an input within its words, and what is left behind for what is asked
 pub mod Answering  -- a hole's answer after solving
 pub mod AnsweringLaws  -- where solving answers 0, an answer can be written
 pub mod UsedLaws  -- a reply's used is at most 4,096

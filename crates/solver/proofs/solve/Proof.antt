@@ -1,5 +1,5 @@
 -- `solver::solve` meets its contract.
-use Rattle.solver.proofs.Leaving.{solves}
+use Rattle.solver.proofs.Showing.{solves}
 use borrow.Author.Needs.{needs}
 use Rattle.solver.proofs.solve.Statement.{statement}
 use Rattle.solver.proofs.solve.Tie as tie

@@ -1,5 +1,5 @@
 -- `solver::write_answer` meets its contract.
-use Rattle.solver.proofs.Answering.{blank-fits, answers, finishing, writes}
+use Rattle.solver.proofs.Answering.{blank-fits, answers, finishing, writes, writes-none}
 use borrow.Author.Needs.{needs}
 use Rattle.solver.proofs.write_answer.Statement.{statement}
 use Rattle.solver.proofs.write_answer.Tie as tie
@@ -13,6 +13,10 @@ write-answer-spec =
     (λ c. search needs)
     (λ c κs. search blank-fits)
     (λ c κs. search answers)
+    (λ c. search needs)
+    (λ c. search needs)
     (λ c κs. search finishing)
     (λ c. search needs)
-    (λ c. search writes))
+    (λ c. search writes)
+    (λ c. search needs)
+    (λ c. search writes-none))

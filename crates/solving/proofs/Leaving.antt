@@ -11,15 +11,14 @@ use Rattle.rules.specs.declared.Reply.{Reply}
 use Rattle.rules.specs.declared.Refused.{Refused as Why}
 use Rattle.rules.specs.declared.Refused.the-variants.{NoRoom}
 use Rattle.rules.specs.Answers.{refusing, records}
-use Rattle.rules.specs.Solve.{admitted, refusal, Behind, leaves, solve}
+use Rattle.rules.specs.Solve.{admitted, refusal, Behind, leaves}
 use Rattle.invariants.specs.Admit.{Admitted, refusal-says}
 use Rattle.promise.specs.Admitting.{admitted-is}
-use Rattle.checks.specs.declared.Asked.the-variants.{Solving}
 use Rattle.checks.specs.declared.Refusal.{Refusal}
 use Rattle.checks.specs.declared.Refusal.the-variants.{Admitted as Admits-all, Refused}
-use Rattle.checks.specs.Refusing.{refusalOf, asks, outside, Settled, outside-refused, inside-sound, in-table, zeros-ask}
+use Rattle.checks.specs.Refusing.{refusalOf, outside, Settled, outside-refused, inside-sound, in-table, zeros-ask}
 use Rattle.machine.specs.Leaving.{Admits, LeftBehind}
-use Rattle.solver.specs.Checking.{Inside, Checking}
+use Rattle.solving.specs.Checking.{Inside, Checking}
 
 pub zeros-serve : (k : ℕ) → k ≤ 4096 → (ws ss : List ℕ) (n : ℕ) → Inside k ws ss n → Checking ws ss (replicate k 0) (replicate k 0) (replicate k 0) (replicate k 0) n
 zeros-serve k small ws ss n h = record { asks = zeros-ask k small ws n (h .few) (in-table ws ss n (h .within) .1); within = h .within }
@@ -40,16 +39,21 @@ module _ (ws ss : List ℕ) (n : ℕ) (o : Bool) (e : o ≡ outside ws ss n) (f 
   pub inside-few : (k : ℕ) → n ≤ k → Inside k ws ss n
   inside-few k le = record { few = le; within = sym e ∙ f }
 
--- 5, 10, 6 and 7
+-- where 5, 10, 6 and 7 are decided: what is left behind, whichever way they were
+pub record Decided (b : Bool) (ws ss es : List ℕ) (n : ℕ) (x : Refusal) : Type 0 where
+  pub refused : (qs : List ℕ) (why : Why) (r : Reply) → x ≡ Refused why → refusing why ≡ r → LeftBehind (refusal b ws ss n) ws ss qs n ws ss qs r
+  pub admits : (R k : ℕ) → records ws ≡ R → x ≡ Admits-all k → Admits R n ws ss es k
+  pub solved : (qs : List ℕ) (k : ℕ) (l : Behind) → x ≡ Admits-all k → leaves admitted ws ss qs n ≡ l → leaves (refusal b ws ss n) ws ss qs n ≡ l
+
 module _ (b : Bool) (ws ss ms la be es₀ es : List ℕ) (n : ℕ) (x : Refusal) (h : Checking ws ss ms la be es₀ n) (s : Settled ws es n b x) where
   says : refusal b ws ss n ≡ refusalOf x
   says = inside-sound ws ss n (h .within) b (refusalOf x) (s .says)
 
-  pub left-refused : (qs : List ℕ) (why : Why) (r : Reply) → x ≡ Refused why → refusing why ≡ r → LeftBehind (refusal b ws ss n) ws ss qs n ws ss qs r
+  left-refused : (qs : List ℕ) (why : Why) (r : Reply) → x ≡ Refused why → refusing why ≡ r → LeftBehind (refusal b ws ss n) ws ss qs n ws ss qs r
   unfolding leaves
   left-refused qs why r z q = rw (says, z, q)
 
-  pub settled-admits : (R k : ℕ) → records ws ≡ R → x ≡ Admits-all k → Admits R n ws ss es k
+  settled-admits : (R k : ℕ) → records ws ≡ R → x ≡ Admits-all k → Admits R n ws ss es k
   settled-admits R k r z =
       let a : Admitted b ws ss n = rw (says, z) at (refusal-says b ws ss n) in
       let t : refusal true ws ss n ≡ admitted = ap (λ (x : Bool). refusal x ws ss n) (sym (a .is)) ∙ says ∙ ap refusalOf z in
@@ -60,10 +64,5 @@ module _ (b : Bool) (ws ss ms la be es₀ es : List ℕ) (n : ℕ) (x : Refusal)
         noted = record { long = s .held k z; same = s .noted k z };
       }
 
-  pub left-admitted : (qs : List ℕ) (k : ℕ) (l : Behind) → x ≡ Admits-all k → leaves admitted ws ss qs n ≡ l → leaves (refusal b ws ss n) ws ss qs n ≡ l
-  left-admitted qs k l z e = rw (says, z) e
-
--- solving alone is asked
-pub solves : (ws ss qs : List ℕ) (n : ℕ) (l : Behind) → leaves (refusal (asks Solving ws n) ws ss n) ws ss qs n ≡ l → solve ws ss qs n ≡ l
-unfolding solve asks
-solves ws ss qs n l h = h
+  pub decided : Decided b ws ss es n x
+  decided = record { refused = left-refused; admits = settled-admits; solved = λ qs k l z e. rw (says, z) e }

@@ -1,9 +1,9 @@
--- `solver::check_all` meets its contract.
-use Rattle.solver.proofs.Leaving.{zeros-serve}
+-- `solving::check_all` meets its contract.
+use Rattle.solving.proofs.Leaving.{zeros-serve}
 use native.Mathlib.Omega.{arith}
 use borrow.Author.Needs.{needs}
-use Rattle.solver.proofs.check_all.Statement.{statement}
-use Rattle.solver.proofs.check_all.Tie as tie
+use Rattle.solving.proofs.check_all.Statement.{statement}
+use Rattle.solving.proofs.check_all.Tie as tie
 
 pub check-all-spec : {M : Type 1} → statement M
 check-all-spec =

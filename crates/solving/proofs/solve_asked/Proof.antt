@@ -1,8 +1,8 @@
--- `solver::solve_asked` meets its contract.
-use Rattle.solver.proofs.Leaving.{left-outside, inside-fits, inside-few, inside-most}
+-- `solving::solve_asked` meets its contract.
+use Rattle.solving.proofs.Leaving.{left-outside, inside-fits, inside-few, inside-most}
 use borrow.Author.Needs.{needs}
-use Rattle.solver.proofs.solve_asked.Statement.{statement}
-use Rattle.solver.proofs.solve_asked.Tie as tie
+use Rattle.solving.proofs.solve_asked.Statement.{statement}
+use Rattle.solving.proofs.solve_asked.Tie as tie
 
 -- the input was found to lie within its words
 few-requires : tie.Need-check-few-requires

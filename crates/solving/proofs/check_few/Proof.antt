@@ -1,9 +1,9 @@
--- `solver::check_few` meets its contract.
-use Rattle.solver.proofs.Leaving.{zeros-serve}
+-- `solving::check_few` meets its contract.
+use Rattle.solving.proofs.Leaving.{zeros-serve}
 use native.Mathlib.Omega.{arith}
 use borrow.Author.Needs.{needs}
-use Rattle.solver.proofs.check_few.Statement.{statement}
-use Rattle.solver.proofs.check_few.Tie as tie
+use Rattle.solving.proofs.check_few.Statement.{statement}
+use Rattle.solving.proofs.check_few.Tie as tie
 
 pub check-few-spec : {M : Type 1} → statement M
 check-few-spec =
