@@ -20,8 +20,9 @@ use Rattle.rules.specs.Text.{Bytes, replyLine, shownText, holeLine, solvedLines
 use Rattle.laws.specs.Noted.{noted-member}
 use Rattle.checks.specs.declared.Asked.the-variants.{Record as Asking}
 use Rattle.checks.specs.Refusing.{asks, isHole}
-use Rattle.solver.specs.Answering.{Answerable, answerable}
-use Rattle.solver.specs.Used.{read-used}
+use Rattle.solver.specs.Answering.{Answerable}
+use Rattle.solver.specs.AnsweringLaws.{answerable}
+use Rattle.solver.specs.UsedLaws.{read-used}
 use Rattle.lines.specs.Holes.{Notable, Holes}
 use Rattle.lines.specs.Lines.{Blank, solved, lineOf, Lines}
 

@@ -1,2 +1,4 @@
-pub mod Run  -- the run's contract, and what a turn of its loop keeps
-pub mod Start  -- where the run and the machine start
+pub mod Run  -- what the run comes to
+pub mod Start  -- where the machine starts
+pub mod Leaving  -- an admitted input, and what is left behind
+pub mod MachineLaws  -- the machine where no record is given

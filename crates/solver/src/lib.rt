@@ -1,252 +1,16 @@
 // Solving, and showing one hole's answer: the public functions over lent words.
 use checks::Asked;
-use checks::Refusal;
-use checks::out_of_room;
-use checks::refuse;
-use checks::refusing;
 use checks::room_of;
-use machine::Ran;
-use machine::machine;
-use rules::Failure;
-use rules::Refused;
 use rules::Reply;
 use show::answer;
+use solving::solve_asked;
 use store::Walked;
-use store::clear;
 use store::fill;
-use store::first_unused;
 use table::Hole;
 ghost use mathlib.Core.Path.{_≡_};
-ghost use Prim.Native.Nat.{_*_, _≤_};
-ghost use lib.ListN.{length};
-ghost use Rattle.rules.specs.Answers.{too-few, pairs, number};
-ghost use Rattle.rules.specs.Solve.{admitted, solve as solveOf};
+ghost use Rattle.rules.specs.Solve.{solve as solveOf};
 ghost use Rattle.rules.specs.Show.{show as showOf};
-ghost use Rattle.machine.specs.Start.{Started};
-ghost use Rattle.checks.specs.Refusing.{refusalOf};
-ghost use Rattle.solver.specs.Behind.{LeftBehind, AskedLeaves};
-ghost use Rattle.solver.specs.Running.{Machines, Runs, Admits};
-ghost use Rattle.solver.specs.Leaving.{Inside, Checking, UnlessRefused};
-ghost use Rattle.solver.specs.Answering.{Answerable, Writes, ShowReply};
-
-// C: the length divided by 2, rounded down, at most 1,024.
-fn pairs_of(queue: &[u32]) -> usize
-    ensures { λ r. ⌜ pairs (now (queue .entry)) ≡ r ⌝ }
-{
-    let k = queue.len() / 2;
-    if k < 1024 {
-        return k;
-    }
-    1024
-}
-
-// This paper's number of each failure of the machine.
-fn number_of(failure: Failure) -> u32
-    ensures { λ r. ⌜ number failure ≡ r ⌝ }
-{
-    match failure {
-        Failure::Clash => 1,
-        Failure::Escape => 2,
-        Failure::Occurs => 3,
-        Failure::QueueFull => 8,
-        Failure::TableFull => 9,
-    }
-}
-
-// The machine, with the first C pairs of the queue lent on.
-fn lend_pairs(
-    table: &mut [u32],
-    solutions: &mut [u32],
-    queue: &mut [u32],
-    equations: &[u16],
-    count: usize,
-    n: u32,
-    room: u32,
-    cap: usize,
-) -> Ran
-    requires { ⌜ Started room n (now table) (now solutions) (now queue) cap (now equations) count ⌝ }
-    ensures { λ r. ⌜ Machines room cap n (now (table .entry)) (now (solutions .entry)) (now (queue .entry)) (now (table .exit)) (now (solutions .exit)) (now (queue .exit)) r ⌝ }
-{
-    let end = 2 * cap;
-    machine(
-        table,
-        solutions,
-        &mut queue[0..end],
-        equations,
-        count,
-        n,
-        room,
-        cap,
-    )
-}
-
-// The machine runs from a cleared table, and the queue is emptied.
-fn run_machine(
-    table: &mut [u32],
-    solutions: &mut [u32],
-    queue: &mut [u32],
-    equations: &[u16],
-    count: usize,
-    n: u32,
-    room: u32,
-) -> Ran
-    requires { ⌜ Admits room n (now table) (now solutions) (now equations) count ⌝ }
-    ensures { λ r. ⌜ Runs room n (now (table .entry)) (now (solutions .entry)) (now (queue .entry)) (now (table .exit)) (now (solutions .exit)) (now (queue .exit)) r ⌝ }
-{
-    let cap = pairs_of(queue);
-    clear(table, solutions, n, room);
-    let outcome = lend_pairs(table, solutions, queue, equations, count, n, room, cap);
-    fill(queue, 0, 2 * cap, 0);
-    outcome
-}
-
-// An admitted input: the reply to what the machine came to. A failure leaves table and solutions cleared: past the records written they
-// still are.
-fn solve_admitted(
-    table: &mut [u32],
-    solutions: &mut [u32],
-    queue: &mut [u32],
-    equations: &[u16],
-    count: usize,
-    n: u32,
-    room: u32,
-) -> Reply
-    requires { ⌜ Admits room n (now table) (now solutions) (now equations) count ⌝ }
-    ensures { λ r. ⌜ LeftBehind admitted (now (table .entry)) (now (solutions .entry)) (now (queue .entry)) n (now (table .exit)) (now (solutions .exit)) (now (queue .exit)) r ⌝ }
-{
-    match run_machine(table, solutions, queue, equations, count, n, room) {
-        Ran::Solved(records) => Reply {
-            answer: 0,
-            place: 0,
-            used: records,
-        },
-        Ran::Failed(failure) => {
-            let answer = number_of(failure);
-            let used = first_unused(table, n, room);
-            clear(table, solutions, n, used);
-            Reply {
-                answer,
-                place: 0,
-                used: 0,
-            }
-        }
-    }
-}
-
-// A refusal writes nothing; otherwise the machine runs with the equations that were noted.
-fn solve_unless_refused(
-    table: &mut [u32],
-    n: u32,
-    solutions: &mut [u32],
-    queue: &mut [u32],
-    equations: &[u16],
-    refusal: Refusal,
-) -> Reply
-    requires { ⌜ UnlessRefused (now table) (now solutions) (now equations) n refusal ⌝ }
-    ensures { λ r. ⌜ LeftBehind (refusalOf refusal) (now (table .entry)) (now (solutions .entry)) (now (queue .entry)) n (now (table .exit)) (now (solutions .exit)) (now (queue .exit)) r ⌝ }
-{
-    match refusal {
-        Refusal::Refused(refused) => refusing(refused),
-        Refusal::Admitted { count } => {
-            let room = room_of(table);
-            solve_admitted(table, solutions, queue, equations, count, n, room)
-        }
-    }
-}
-
-// Answers 5, 10, 6 and 7, and otherwise the machine.
-fn check_and_solve(
-    table: &mut [u32],
-    n: u32,
-    solutions: &mut [u32],
-    queue: &mut [u32],
-    marks: &mut [u8],
-    last: &mut [u16],
-    before: &mut [u16],
-    equations: &mut [u16],
-    asked: Asked,
-) -> Reply
-    requires { ⌜ Checking (now table) (now solutions) (now marks) (now last) (now before) (now equations) n ⌝ }
-    ensures { λ r. ⌜ AskedLeaves asked (now (table .entry)) (now (solutions .entry)) (now (queue .entry)) n (now (table .exit)) (now (solutions .exit)) (now (queue .exit)) r ⌝ }
-{
-    let refusal = refuse(table, marks, last, before, equations, n, asked);
-    solve_unless_refused(table, n, solutions, queue, equations, refusal)
-}
-
-// The checks with arrays for at most 256 records, which cost a small problem little to clear; then the machine.
-fn check_few(
-    table: &mut [u32],
-    n: u32,
-    solutions: &mut [u32],
-    queue: &mut [u32],
-    asked: Asked,
-) -> Reply
-    requires { ⌜ Inside 256 (now table) (now solutions) n ⌝ }
-    ensures { λ r. ⌜ AskedLeaves asked (now (table .entry)) (now (solutions .entry)) (now (queue .entry)) n (now (table .exit)) (now (solutions .exit)) (now (queue .exit)) r ⌝ }
-{
-    let mut marks = [0u8; 256];
-    let mut last = [0u16; 256];
-    let mut before = [0u16; 256];
-    let mut equations = [0u16; 256];
-    check_and_solve(
-        table,
-        n,
-        solutions,
-        queue,
-        &mut marks,
-        &mut last,
-        &mut before,
-        &mut equations,
-        asked,
-    )
-}
-
-// The checks with arrays for any number of records; then the machine.
-fn check_all(
-    table: &mut [u32],
-    n: u32,
-    solutions: &mut [u32],
-    queue: &mut [u32],
-    asked: Asked,
-) -> Reply
-    requires { ⌜ Inside 4096 (now table) (now solutions) n ⌝ }
-    ensures { λ r. ⌜ AskedLeaves asked (now (table .entry)) (now (solutions .entry)) (now (queue .entry)) n (now (table .exit)) (now (solutions .exit)) (now (queue .exit)) r ⌝ }
-{
-    let mut marks = [0u8; 4096];
-    let mut last = [0u16; 4096];
-    let mut before = [0u16; 4096];
-    let mut equations = [0u16; 4096];
-    check_and_solve(
-        table,
-        n,
-        solutions,
-        queue,
-        &mut marks,
-        &mut last,
-        &mut before,
-        &mut equations,
-        asked,
-    )
-}
-
-// Solving for what is asked. Answer 4 writes nothing; otherwise arrays of one of two sizes: small problems clear small arrays.
-fn solve_asked(
-    table: &mut [u32],
-    n: usize,
-    solutions: &mut [u32],
-    queue: &mut [u32],
-    asked: Asked,
-) -> Reply
-    ensures { λ r. ⌜ AskedLeaves asked (now (table .entry)) (now (solutions .entry)) (now (queue .entry)) n (now (table .exit)) (now (solutions .exit)) (now (queue .exit)) r ⌝ }
-{
-    if out_of_room(table, solutions, n) {
-        return refusing(Refused::NoRoom);
-    }
-    if n <= 256 {
-        return check_few(table, n as u32, solutions, queue, asked);
-    }
-    check_all(table, n as u32, solutions, queue, asked)
-}
+ghost use Rattle.solver.specs.Answering.{Answerable, Writes};
 
 // Solving the first n records of a table, with solution and queue words.
 pub fn solve(table: &mut [u32], n: usize, solutions: &mut [u32], queue: &mut [u32]) -> Reply
@@ -255,44 +19,29 @@ pub fn solve(table: &mut [u32], n: usize, solutions: &mut [u32], queue: &mut [u3
     solve_asked(table, n, solutions, queue, Asked::Solving)
 }
 
-// The reply where show's output has too few records.
-fn too_few() -> Reply
-    ensures { λ r. ⌜ too-few ≡ r ⌝ }
+// The answer of an input hole after solving, in an output whose counted records are cleared first; too few of them are left zero.
+pub fn write_answer(table: &[u32], solutions: &[u32], output: &mut [u32], hole: Hole) -> Reply
+    requires { ⌜ Answerable (now table) (now solutions) (hole .0) ⌝ }
+    ensures { λ r. ⌜ Writes (now (table .entry)) (now (solutions .entry)) (hole .0) (now (output .entry)) (now (output .exit)) r ⌝ }
 {
-    Reply {
-        answer: 11,
-        place: 0,
-        used: 0,
-    }
-}
-
-// The reply to what was written; too few output records leave all counted records zero.
-fn reply_to_show(output: &mut [u32], room: u32, walked: Walked) -> Reply
-    requires { ⌜ 4 * room ≤ length (now output) ⌝ }
-    ensures { λ r. ⌜ ShowReply room (now (output .entry)) walked (now (output .exit)) r ⌝ }
-{
-    match walked {
+    let room = room_of(output);
+    let words = 4 * (room as usize);
+    fill(output, 0, words, 0);
+    match answer(table, solutions, output, room, hole) {
         Walked::Root { root: _, used } => Reply {
             answer: 0,
             place: 0,
             used,
         },
         Walked::Failed(_) => {
-            fill(output, 0, 4 * (room as usize), 0);
-            too_few()
+            fill(output, 0, words, 0);
+            Reply {
+                answer: 11,
+                place: 0,
+                used: 0,
+            }
         }
     }
-}
-
-// The answer of an input hole after solving, in an output whose counted records are cleared first.
-pub fn write_answer(table: &[u32], solutions: &[u32], output: &mut [u32], hole: Hole) -> Reply
-    requires { ⌜ Answerable (now table) (now solutions) (hole .0) ⌝ }
-    ensures { λ r. ⌜ Writes (now (table .entry)) (now (solutions .entry)) (hole .0) (now (output .entry)) (now (output .exit)) r ⌝ }
-{
-    let room = room_of(output);
-    fill(output, 0, 4 * (room as usize), 0);
-    let walked = answer(table, solutions, output, room, hole);
-    reply_to_show(output, room, walked)
 }
 
 // Showing record `hole` of the first n records: solves, then writes its answer into the output.

@@ -29,7 +29,7 @@ use Rattle.laws.specs.Forms.{Term, is-lambda, is-constant, is-variable, is-hole
 use Rattle.laws.specs.Unrolled.{arguments-every}
 use Rattle.invariants.specs.Start.{blank, records-few}
 use Rattle.invariants.specs.Answers.{solve-low, show-says}
-use Rattle.solver.specs.Used.{solve-used, show-used, read-used}
+use Rattle.solver.specs.UsedLaws.{solve-used, show-used, read-used}
 use Rattle.tanczotka_c.specs.Packed.{packed}
 
 -- the lowest 16 bits are the answer, the next 16 the place, and what lies above them is used

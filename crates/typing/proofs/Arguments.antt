@@ -17,12 +17,12 @@ use Rattle.rules.specs.Pattern.{offence}
 use Rattle.laws.specs.Tests.{false-true, both-no}
 use Rattle.laws.specs.Lists.{size, size-real, elements-none}
 use Rattle.laws.specs.Places.{TypeAt, ListAt, placed-inside, domain-at, result-at, term-cell, type-cell}
+use Rattle.heads.specs.Stack.{binders}
+use Rattle.heads.specs.Heads.{named}
+use Rattle.heads.specs.HeadsLaws.{domains-arrow, asks-arrow, named-fills, other-fills, named-bare}
 use Rattle.typing.specs.declared.Checked.the-variants.{Fails, ButLast}
-use Rattle.typing.specs.Stack.{binders}
 use Rattle.typing.specs.Offences.{among-terms}
-use Rattle.typing.specs.Asks.{named, takes, filled, TermAsks, ArgsAsk, ListAsks, Told, Leaves}
-use Rattle.typing.proofs.Heads.{domains-arrow, asks-arrow}
-use Rattle.typing.proofs.Bare.{named-fills, other-fills, named-bare}
+use Rattle.typing.specs.Asks.{takes, filled, TermAsks, ArgsAsk, ListAsks, Told, Leaves}
 use Rattle.typing.proofs.Occurrences.{among-end, among-cell, bare-offence}
 
 -- the first arguments have passed; so says of a list and of what it is held to whether it passes

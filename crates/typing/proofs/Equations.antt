@@ -21,8 +21,8 @@ use Rattle.laws.specs.Tests.{false-true}
 use Rattle.laws.specs.Sound.{equation-fields}
 use Rattle.laws.specs.Members.{none, every-at}
 use Rattle.laws.specs.Places.{TermAt, Sides, sides-at}
+use Rattle.heads.specs.Stack.{binders}
 use Rattle.typing.specs.declared.Judged.the-variants.{Fine, IllTyped, NoPattern}
-use Rattle.typing.specs.Stack.{binders}
 use Rattle.typing.specs.Offences.{sides, still}
 use Rattle.typing.specs.Asks.{TermAsks, EquationAsks, JudgeAsks, Told, Offends}
 use Rattle.typing.specs.Judging.{judged, Judges}

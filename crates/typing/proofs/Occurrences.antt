@@ -13,7 +13,7 @@ use Rattle.laws.specs.Tests.{both-true}
 use Rattle.laws.specs.Forms.{offence-lambda, offence-constant, offence-variable, offence-hole}
 use Rattle.laws.specs.Unrolled.{offence-unrolled}
 use Rattle.laws.specs.Places.{TermAt, ListAt, term-cell}
-use Rattle.typing.specs.Occurrences.{different, occurrence}
+use Rattle.patterns.specs.Occurrences.{different, occurrence}
 use Rattle.typing.specs.Offences.{among-terms}
 
 least-min : (b : ℕ) (xs : List ℕ) → b ≤ NONE → least b xs ≡ min b (least NONE xs)

@@ -23,14 +23,15 @@ use Rattle.laws.specs.Members.{more, every-at}
 use Rattle.laws.specs.Forms.{is-lambda, is-constant, is-variable, is-hole, term-of, check-lambda, check-constant, check-variable, check-hole}
 use Rattle.laws.specs.Unrolled.{checks-unrolled}
 use Rattle.laws.specs.Places.{TypeAt, ListAt, placed-inside, domain-at, result-at, body-at, arguments-at, constant-at, constant-inside, hole-at, context-at}
-use Rattle.typing.specs.declared.Final.{Final}
-use Rattle.typing.specs.Occurrences.{occurrence}
+use Rattle.heads.specs.declared.Final.{Final}
+use Rattle.heads.specs.Stack.{binders, typeOf}
+use Rattle.heads.specs.Heads.{headType, IsFinal, Bound, Binds}
+use Rattle.heads.specs.HeadsLaws.{binders-pop, head-variable, head-constant, type-found, type-missing}
+use Rattle.patterns.specs.Occurrences.{occurrence}
 use Rattle.typing.specs.declared.Checked.{Checked}
 use Rattle.typing.specs.declared.Checked.the-variants.{Fails, ButLast}
-use Rattle.typing.specs.Stack.{binders, typeOf, binders-pop}
 use Rattle.typing.specs.Offences.{among-terms}
-use Rattle.typing.specs.Asks.{takes, headType, filled, IsFinal, Bound, Binds, TermAsks, ArgsAsk, ListAsks, Told, Remains, Leaves}
-use Rattle.typing.proofs.Heads.{head-variable, head-constant, type-found, type-missing}
+use Rattle.typing.specs.Asks.{takes, filled, TermAsks, ArgsAsk, ListAsks, Told, Remains, Leaves}
 use Rattle.typing.proofs.Arguments.{takes-none, takes-more}
 use Rattle.typing.proofs.Occurrences.{among-end, lambda-offence, constant-offence, variable-offence, hole-offence}
 

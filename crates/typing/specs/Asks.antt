@@ -1,58 +1,28 @@
 -- What the functions of this crate ask and answer.
 use Prim.Native.Nat.{ℕ, _+_, _<_, _≤_, min}
 use mathlib.Core.Path.{_≡_}
-use mathlib.Core.List.{List, _∷_}
+use mathlib.Core.List.{List}
 use mathlib.Core.Bool.{Bool, true, false, not}
-use lib.ListN.{length, getD, take}
-use lib.Dec.{eqb, ltb}
-use Rattle.table.specs.declared.Record.{Record}
-use Rattle.rules.specs.declared.Found.{Found}
-use Rattle.rules.specs.declared.Found.the-variants.{At, Nowhere}
-use Rattle.rules.specs.Lists.{both, each, those, below, enough}
-use Rattle.rules.specs.Words.{NONE, AR, VA, EQ, tag, fieldA, fieldB, has, isTerm, elements, bare}
-use Rattle.rules.specs.Typing.{finalType, domains, fills, checks, typed}
+use lib.ListN.{length, take}
+use Rattle.rules.specs.Lists.{each, those, below, enough}
+use Rattle.rules.specs.Words.{NONE, EQ, tag, has, isTerm, elements}
+use Rattle.rules.specs.Typing.{domains, fills, checks, typed}
 use Rattle.rules.specs.Pattern.{offence}
 use Rattle.laws.specs.Lists.{size}
 use Rattle.laws.specs.Members.{Legal, Every}
 use Rattle.laws.specs.Places.{TypeAt, TermAt, ListAt}
-use Rattle.typing.specs.declared.Final.{Final}
 use Rattle.typing.specs.declared.Checked.{Checked}
 use Rattle.typing.specs.declared.Checked.the-variants.{Fails, ButLast}
-use Rattle.typing.specs.Stack.{binders, typeOf}
+use Rattle.heads.specs.Stack.{binders}
 use Rattle.typing.specs.Offences.{sides, among-terms}
-
--- a hole's argument is a bare variable of exactly the type asked
-unfoldable pub named : List ℕ → List ℕ → ℕ → ℕ → Bool
-named ws ctx x t = both (bare ws x) (both (ltb (fieldA ws x) (length ctx)) (eqb (getD ctx (fieldA ws x) 0) t))
 
 -- a head of this type takes list l: as many arguments as it asks, and each checks
 unfoldable pub takes : List ℕ → List ℕ → ℕ → ℕ → Bool
 takes ws ctx l head = each (checks enough ws ctx) (elements ws l) (domains enough ws head)
 
--- the type of a rigid head: a bound variable's, or a constant's
-unfoldable pub headType : List ℕ → List ℕ → Record → Found
-headType ws ctx x = elim (eqb (x .tag) VA) [ true ↦ typeOf ctx (x .a) | false ↦ At (fieldA ws (x .a)) ]
-
 -- list l fills a context
 unfoldable pub filled : List ℕ → List ℕ → ℕ → ℕ → Bool
 filled ws ctx l context = each (fills (checks enough ws) ws ctx) (elements ws l) (elements ws context)
-
--- a head's final type, and how many arguments it asks
-pub record IsFinal (ws : List ℕ) (ty : ℕ) (x : Final) : Type 0 where
-  pub base-is : x .base ≡ finalType enough ws ty
-  pub count-is : x .count ≡ length (domains enough ws ty)
-  pub few : x .count ≤ ty
-
--- an arrow's domain is the innermost binder, and its result is the type asked of the body
-pub record Bound (ws st : List ℕ) (d ty : ℕ) (st₁ : List ℕ) (body : ℕ) : Type 0 where
-  pub arrow : tag ws ty ≡ AR
-  pub pushed : binders st₁ (d + 1) ≡ fieldA ws ty ∷ binders st d
-  pub body-is : body ≡ fieldB ws ty
-
--- what a lambda's binder leaves: the type asked of the body, or, where the type asked is no arrow, nothing
-unfoldable pub Binds : List ℕ → List ℕ → ℕ → ℕ → List ℕ → Found → Type 0
-Binds ws st d ty st₁ (At body) = Bound ws st d ty st₁ body
-Binds ws st d ty st₁ Nowhere = (tag ws ty ≡ AR → ⊥) × (st₁ ≡ st)
 
 -- a term and a type, room on the stack for as many binders as can follow, since each has a lower number, and the lowest offending
 -- occurrence so far

@@ -1,35 +1,25 @@
 // Typing (6) and patterns (7) in one descent: the lowest equation with a side that does not check, otherwise the lowest offending
 // hole occurrence.
-mod patterns;
-
+use heads::bind;
+use heads::final_type;
+use heads::head_type;
+use heads::names;
 use patterns::offended;
 use rules::Found;
-use table::AR;
 use table::HA;
 use table::LA;
 use table::NONE;
-use table::Record;
-use table::VA;
-use table::Variable;
 use table::read;
 ghost use mathlib.Core.Path.{_≡_};
-ghost use Prim.Native.Nat.{_+_, _*_, _<_, _≤_};
-ghost use lib.ListN.{length};
 ghost use Rattle.rules.specs.Lists.{enough};
-ghost use Rattle.rules.specs.Words.{VA, HA, tag, isType};
+ghost use Rattle.rules.specs.Words.{HA, tag, isType};
 ghost use Rattle.rules.specs.Typing.{checks};
 ghost use Rattle.rules.specs.Pattern.{offence};
-ghost use Rattle.laws.specs.Places.{TypeAt, ListAt};
-ghost use Rattle.typing.specs.Stack.{binders, typeOf};
+ghost use Rattle.laws.specs.Places.{ListAt};
+ghost use Rattle.heads.specs.Stack.{binders};
 ghost use Rattle.typing.specs.Offences.{among-terms};
-ghost use Rattle.typing.specs.Asks.{named, headType, filled, IsFinal, Binds, TermAsks, ArgsAsk, ListAsks, EquationAsks, JudgeAsks, Told, Offends, Leaves};
+ghost use Rattle.typing.specs.Asks.{filled, TermAsks, ArgsAsk, ListAsks, EquationAsks, JudgeAsks, Told, Offends, Leaves};
 ghost use Rattle.typing.specs.Judging.{Judges};
-
-// A head's final type, and how many arguments it asks.
-pub struct Final {
-    pub base: u32,
-    pub count: u32,
-}
 
 // What the check of an argument list answers: it fails, or all but the last argument are checked, and that one is to be checked at this type.
 pub enum Checked {
@@ -42,87 +32,6 @@ pub enum Judged {
     Fine,
     IllTyped(u32),
     NoPattern(u32),
-}
-
-// A head's final type is found by going down, two arrows a call ("one large solution" large: 1.24 with two, 1.28 with one). The table is lent on
-// as a part, which is passed in two halves; in one piece, as it came, it waits for the stores that made it ("equal rigid trees" large: 1.13
-// with the part, 1.25 without).
-fn final_type(table: &[u32], ty: u32) -> Final
-    requires { ⌜ TypeAt (now table) ty ⌝ }
-    ensures { λ r. ⌜ IsFinal (now (table .entry)) ty r ⌝ }
-{
-    let x = read(table, ty);
-    if x.tag != AR {
-        return Final { base: ty, count: 0 };
-    }
-    let y = read(table, x.b);
-    if y.tag != AR {
-        return Final {
-            base: x.b,
-            count: 1,
-        };
-    }
-    let f = final_type(&table[0..], y.b);
-    Final {
-        base: f.base,
-        count: f.count + 2,
-    }
-}
-
-// The type of a bound variable.
-fn type_of(stack: &[u16], depth: usize, v: Variable) -> Found
-    requires { ⌜ depth ≤ length (now stack) ⌝ }
-    ensures { λ r. ⌜ r ≡ typeOf (binders (now (stack .entry)) depth) (v .0) ⌝ }
-{
-    let k = v.0 as usize;
-    if k < depth {
-        Found::At(stack[depth - 1 - k] as u32)
-    } else {
-        Found::Nowhere
-    }
-}
-
-// A hole's argument is a bare variable of exactly the type asked.
-fn names(table: &[u32], stack: &[u16], depth: usize, x: u32, ty: u32) -> bool
-    requires { ⌜ (depth ≤ length (now stack)) × (4 * x + 3 < length (now table)) ⌝ }
-    ensures { λ b. ⌜ b ≡ named (now (table .entry)) (binders (now (stack .entry)) depth) x ty ⌝ }
-{
-    let y = read(table, x);
-    if y.tag != VA {
-        return false;
-    }
-    if y.b != NONE {
-        return false;
-    }
-    let Found::At(t) = type_of(stack, depth, Variable(y.a)) else {
-        return false;
-    };
-    t == ty
-}
-
-// The type of a rigid head: a bound variable's, or a constant's.
-fn head_type(table: &[u32], stack: &[u16], depth: usize, x: Record) -> Found
-    requires { ⌜ (depth ≤ length (now stack)) × ((x .tag ≡ VA → ⊥) → 4 * (x .a) + 3 < length (now table)) ⌝ }
-    ensures { λ r. ⌜ r ≡ headType (now (table .entry)) (binders (now (stack .entry)) depth) x ⌝ }
-{
-    if x.tag == VA {
-        return type_of(stack, depth, Variable(x.a));
-    }
-    let constant = read(table, x.a);
-    Found::At(constant.a)
-}
-
-// A lambda's binder goes on the stack, if the type asked is an arrow: the type asked of the body.
-fn bind(table: &[u32], stack: &mut [u16], depth: usize, ty: u32) -> Found
-    requires { ⌜ (TypeAt (now table) ty) × (depth < length (now stack)) ⌝ }
-    ensures { λ r. ⌜ Binds (now (table .entry)) (now (stack .entry)) depth ty (now (stack .exit)) r ⌝ }
-{
-    let x = read(table, ty);
-    if x.tag != AR {
-        return Found::Nowhere;
-    }
-    stack[depth] = x.a as u16;
-    Found::At(x.b)
 }
 
 // A term checks at a type under the binders on the stack. The loop goes on with a lambda's body, and with a rigid head's last argument: with a

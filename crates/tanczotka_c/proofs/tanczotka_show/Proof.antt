@@ -1,5 +1,5 @@
 -- `tanczotka_c::tanczotka_show` meets its contract.
-use Rattle.solver.specs.Used.{show-used}
+use Rattle.solver.specs.UsedLaws.{show-used}
 use Rattle.tanczotka_c.specs.Packed.{show-packs}
 use borrow.Author.Needs.{needs}
 use Rattle.tanczotka_c.proofs.tanczotka_show.Statement.{statement}

@@ -1,5 +1,5 @@
 -- `tanczotka_c::tanczotka_solve` meets its contract.
-use Rattle.solver.specs.Used.{solve-used}
+use Rattle.solver.specs.UsedLaws.{solve-used}
 use Rattle.tanczotka_c.specs.Packed.{solve-packs}
 use borrow.Author.Needs.{needs}
 use Rattle.tanczotka_c.proofs.tanczotka_solve.Statement.{statement}

@@ -25,12 +25,12 @@ use Rattle.typing.proofs.+check_args+check_fills+check_hole+check_term.
 use Rattle.typing.proofs.check_term.Reads as check-term
 use Rattle.typing.proofs.check_term.Kinds as check-term-kinds
 use Rattle.typing.proofs.+check_args+check_fills+check_hole+check_term.Lts-check_term as check-term-lts
-use Rattle.typing.proofs.patterns.offended.Reads as offended-reads
+use Rattle.patterns.proofs.offended.Reads as offended-reads
 use Rattle.table.proofs.read.Reads as read-reads
-use Rattle.typing.proofs.bind.Reads as bind-reads
-use Rattle.typing.proofs.final_type.Reads as final-type-reads
-use Rattle.typing.proofs.head_type.Reads as head-type-reads
-use Rattle.typing.proofs.names.Reads as names-reads
+use Rattle.heads.proofs.bind.Reads as bind-reads
+use Rattle.heads.proofs.final_type.Reads as final-type-reads
+use Rattle.heads.proofs.head_type.Reads as head-type-reads
+use Rattle.heads.proofs.names.Reads as names-reads
 use Rattle.typing.proofs.+check_args+check_fills+check_hole+check_term.{statement}
 use Rattle.typing.proofs.+check_args+check_fills+check_hole+check_term.Tie.{close}
 

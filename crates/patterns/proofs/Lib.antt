@@ -1,0 +1,1 @@
+pub mod Turns  -- what a turn of the pattern check has to show

@@ -1,0 +1,1 @@
+pub mod Leaving  -- what is refused, and what is admitted
