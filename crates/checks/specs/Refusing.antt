@@ -4,7 +4,7 @@ use mathlib.Core.Path.{_≡_, refl, sym, ap, _∙_}
 use mathlib.Core.List.{List}
 use mathlib.Core.Bool.{Bool, true, false}
 use native.Mathlib.Omega.{arith}
-use lib.ListN.{length, getD, take, replicate, length-replicate, getD-replicate}
+use lib.ListN.{length, take}
 use lib.Dec.{eqb, ltb}
 use borrow.Author.Tests.{lt-ltb, le-ltb, ltb-false}
 use Rattle.rules.specs.declared.Found.{Found}
@@ -26,7 +26,7 @@ use Rattle.typing.specs.Judging.{judged, Judges}
 use Rattle.typing.specs.Asks.{JudgeAsks}
 use Rattle.records.specs.declared.Pass.{Pass}
 use Rattle.records.specs.declared.Pass.the-variants.{Broken, Sound}
-use Rattle.records.specs.Rows.{Room, BrokenAsks}
+use Rattle.records.specs.Rows.{BrokenAsks}
 use Rattle.records.specs.Noting.{foundOf, BrokenSays}
 use Rattle.rules.specs.Solve.{Refusal as Refuses, admitted, refused, refusal}
 use Rattle.laws.specs.Members.{Legal, broken-legal}
@@ -185,20 +185,6 @@ module _ (ws es : List ℕ) (n : ℕ) (x : Pass) (e : BrokenSays ws es n x) wher
         let legal = broken-legal ws n (p .few, p .inside) none in
         let noted = e .noted k z .noted in
         record { legal = legal; noted = noted; judge = record { top = n; legal = legal; room = omega arith; held = noted-held; noted = noted } }
-
--- arrays of k zeros serve for at most k records
-module _ (k : ℕ) (small : k ≤ 4096) (ws : List ℕ) (n : ℕ) (le : n ≤ k) where
-  long : n ≤ length (replicate {A = ℕ} k 0)
-  long = simp length-replicate le
-
-  room : Room (replicate k 0) (replicate k 0) (replicate k 0) n
-  room = record { marks = long; last = long; before = long }
-
-  pub zeros-ask : 4 * n ≤ length ws → BrokenAsks ws (replicate k 0) (replicate k 0) (replicate k 0) (replicate k 0) n
-  zeros-ask inside = record { inside = inside; few = omega arith; blank = record { room = room; last = zeros }; equations = long }
-    where
-      zeros : (x : ℕ) → x < length (replicate {A = ℕ} k 0) → getD {A = ℕ} (replicate k 0) x 0 ≡ 0
-      zeros x l = getD-replicate {A = ℕ} k x 0 0 (simp length-replicate at l)
 
 -- whether 4 is answered
 module _ (ws ss : List ℕ) (n R : ℕ) (room : records ws ≡ R) where

@@ -5,20 +5,15 @@ use mathlib.Core.Bool.{true, false, not}
 use mathlib.Core.List.{List}
 use native.Mathlib.Omega.{arith}
 use native.Mathlib.Decide.{ℕ-discrete}
-use lib.ListN.{getD}
 use lib.Dec.{eqb}
 use borrow.Author.Tests.{eq-eqb, ne-eqb}
 use Rattle.rules.specs.declared.Found.{Found}
 use Rattle.rules.specs.declared.Found.the-variants.{At, Nowhere}
 use Rattle.rules.specs.Lists.{both, first}
-use Rattle.rules.specs.File.{marks, byte, marked, isKnown}
-
--- the tag of the mark x y, if it is known
-unfoldable pub tagOf : ℕ → ℕ → Found
-tagOf x y = first 10 (λ k. both (eqb (getD marks k (0, 0) .0) x) (eqb (getD marks k (0, 0) .1) y)) 1
+use Rattle.rules.specs.File.{marks, tagOf, byte, marked, isKnown}
 
 pub marked-by : (bs : List ℕ) (r : ℕ) (f : Found) → tagOf (byte bs (14 * r)) (byte bs (14 * r + 1)) ≡ f → marked bs r ≡ f
-unfolding marked tagOf
+unfolding marked
 marked-by bs r f e = e
 
 module _ (bs : List ℕ) (r : ℕ) (f : Found) (e : marked bs r ≡ f) where

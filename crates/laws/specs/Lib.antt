@@ -7,3 +7,5 @@ pub mod Unrolled  -- the same rules without fuel: it never runs out
 pub mod Search  -- a search record by record
 pub mod Places  -- a type, a term, a list of a legal table
 pub mod Noted  -- numbers that pass a test, noted in order
+pub mod Rows  -- rows of one length, one after another
+pub mod FileRows  -- a file's records as rows

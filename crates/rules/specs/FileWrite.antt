@@ -17,10 +17,13 @@ use Rattle.rules.specs.File.{marks}
 unfoldable pub wordBytes : ℕ → List ℕ
 wordBytes w = w % 256 ∷ w / 256 % 256 ∷ w / 65536 % 256 ∷ w / 16777216 % 256 ∷ []
 
+-- the two bytes of a tag's mark
+unfoldable pub markBytes : ℕ → List ℕ
+markBytes t = getD marks t (0, 0) .0 ∷ getD marks t (0, 0) .1 ∷ []
+
 -- the bytes of record r: the mark of its tag, then a, b, c
 unfoldable pub recordBytes : List ℕ → ℕ → List ℕ
-recordBytes ws r =
-    getD marks (tag ws r) (0, 0) .0 ∷ getD marks (tag ws r) (0, 0) .1 ∷ wordBytes (fieldA ws r) ++ (wordBytes (fieldB ws r) ++ wordBytes (fieldC ws r))
+recordBytes ws r = markBytes (tag ws r) ++ (wordBytes (fieldA ws r) ++ (wordBytes (fieldB ws r) ++ wordBytes (fieldC ws r)))
 
 -- the bytes of k records from record r on
 unfoldable pub fileBytes : List ℕ → ℕ → ℕ → List ℕ

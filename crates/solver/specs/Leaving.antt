@@ -15,9 +15,10 @@ use Rattle.rules.specs.Solve.{admitted, refusal, Behind, leaves}
 use Rattle.invariants.specs.Admit.{Admitted, refusal-says}
 use Rattle.promise.specs.Admitting.{admitted-is}
 use Rattle.records.specs.Rows.{BrokenAsks}
+use Rattle.records.specs.Zeros.{zeros-ask}
 use Rattle.checks.specs.declared.Refusal.{Refusal}
 use Rattle.checks.specs.declared.Refusal.the-variants.{Admitted as Admits-all, Refused}
-use Rattle.checks.specs.Refusing.{refusalOf, outside, Settled, outside-refused, inside-sound, in-table, zeros-ask}
+use Rattle.checks.specs.Refusing.{refusalOf, outside, Settled, outside-refused, inside-sound, in-table}
 use Rattle.solver.specs.Behind.{LeftBehind}
 use Rattle.solver.specs.Running.{Admits}
 

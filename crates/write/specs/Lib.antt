@@ -1,0 +1,2 @@
+pub mod Asks  -- what is known where records are judged and written
+pub mod Single  -- two replies that the promise allows are equal
