@@ -16,7 +16,7 @@ ghost use Rattle.rules.specs.FileWrite.{wordBytes, markBytes, recordBytes, file
 ghost use Rattle.records.specs.Noting.{foundOf};
 ghost use Rattle.write.specs.Asks.{Within, Known, IsMark, MarkAsks, RecordAsks, RecordsAsk};
 
-// The mark of a tag; each number below is two letters of the table of marks, the first times 256.
+// The mark of a tag; each number below is two letters of the table of marks, the first times 256, and the last is that of EQ.
 fn mark_of(tag: u32) -> u16
     requires { ⌜ Known tag ⌝ }
     ensures { λ m. ⌜ IsMark tag m ⌝ }
