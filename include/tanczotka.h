@@ -1,4 +1,4 @@
-/* tanczotka.h: the C boundary of the solver: solving, showing one hole's answer, reading a problem file. */
+/* tanczotka.h: the C boundary of the solver: solving, showing one hole's answer, reading and writing a problem file. */
 
 #ifndef TANCZOTKA_H
 #define TANCZOTKA_H
@@ -27,6 +27,7 @@ extern "C" {
 #define TANCZOTKA_NONE UINT32_C(4294967295)
 #define TANCZOTKA_MOST_RECORDS 4096
 #define TANCZOTKA_MOST_PAIRS 1024
+#define TANCZOTKA_MOST_FILE_RECORDS 2048
 #define TANCZOTKA_MOST_FILE_BYTES 28672
 
 enum tanczotka_tag {
@@ -47,7 +48,8 @@ enum tanczotka_answer {
     TANCZOTKA_CLASH = 1,        /* different rigid heads meet */
     TANCZOTKA_ESCAPE = 2,       /* a variable has no place in the solved hole's context */
     TANCZOTKA_OCCURS = 3,       /* the hole lies inside its own solution */
-    TANCZOTKA_TOO_SMALL = 4,    /* n above R, fewer than R words for solutions, a table smaller than the file */
+    TANCZOTKA_TOO_SMALL = 4,    /* n above R (write: or above 2,048), fewer than R words for solutions, a table smaller
+                                   than the file */
     TANCZOTKA_BAD_RECORD = 5,   /* place: the lowest record that breaks a rule of records */
     TANCZOTKA_ILL_TYPED = 6,    /* place: the lowest equation with a side that does not check */
     TANCZOTKA_NO_PATTERN = 7,   /* place: the lowest offending hole occurrence */
@@ -56,7 +58,8 @@ enum tanczotka_answer {
     TANCZOTKA_NO_HOLE = 10,     /* show: the asked record is no input hole */
     TANCZOTKA_OUTPUT_FULL = 11, /* show: the output has too few records */
     TANCZOTKA_BAD_LENGTH = 12,  /* file longer than 28,672 bytes or not a multiple of 14 */
-    TANCZOTKA_BAD_MARK = 13     /* place: the record with an unknown mark */
+    TANCZOTKA_BAD_MARK = 13,    /* place: the record with an unknown mark */
+    TANCZOTKA_FILE_FULL = 14    /* write: the output is shorter than the file */
 };
 
 /* A reply packs four fields of 16 bits, lowest first: answer, place, used, and one that is 0.
@@ -88,6 +91,14 @@ uint64_t tanczotka_show(uint32_t *table, size_t table_len, size_t n, uint32_t *s
 /* Reads a problem file, records of 14 bytes: a mark of two letters, then a, b, c little-endian. Used: the records read.
  * Answers other than 0 write nothing; answer 0 writes the file's records and no other word. */
 uint64_t tanczotka_read(const uint8_t *file, size_t file_len, uint32_t *table, size_t table_len);
+
+/* Writes the first n records of the table as a problem file of 14 * n bytes, of at most 2,048 records. They must keep the
+ * rules of records; they need not be typed or patterns, and later records do not matter. Used: n. Reading the file gives
+ * the same n records, and writing the records that were read gives the same bytes.
+ *
+ * Left behind: answers 4, 5 and 14, in this order, write nothing. Answer 0: the first 14 * n bytes are the file, the
+ * bytes past them stay. The table is only read. */
+uint64_t tanczotka_write(const uint32_t *table, size_t table_len, size_t n, uint8_t *file, size_t file_len);
 
 #ifdef __cplusplus
 }

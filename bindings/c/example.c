@@ -1,4 +1,4 @@
-/* example.c: reads a problem of 14 records, solves it and prints the answer of its one hole. */
+/* example.c: reads a problem of 14 records, writes it back, solves it and prints the answer of its one hole. */
 
 #include "tanczotka.h"
 
@@ -53,7 +53,7 @@ static void print_reply(uint64_t reply) {
 }
 
 int main(void) {
-    uint8_t file[14 * 14];
+    uint8_t file[14 * 14], again[14 * 14];
     uint32_t table[4 * ROOM], solutions[ROOM], queue[2 * PAIRS], output[4 * ROOM];
 
     uint64_t reply = tanczotka_read(file, write_file(file), table, 4 * ROOM);
@@ -62,6 +62,11 @@ int main(void) {
         return 1;
     }
     size_t n = tanczotka_used(reply);
+    reply = tanczotka_write(table, 4 * ROOM, n, again, sizeof again);
+    if (tanczotka_answer(reply) != TANCZOTKA_SOLVED || memcmp(file, again, sizeof file) != 0) {
+        print_reply(reply);
+        return 1;
+    }
     reply = tanczotka_solve(table, 4 * ROOM, n, solutions, ROOM, queue, 2 * PAIRS);
     print_reply(reply);
     if (tanczotka_answer(reply) != TANCZOTKA_SOLVED)

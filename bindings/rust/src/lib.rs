@@ -1,10 +1,10 @@
-//! A small safe wrapper over the solver's three C functions.
+//! A small safe wrapper over the solver's four C functions.
 //!
 //! All memory is lent by the caller as slices of any length; `include/tanczotka.h` says what is left in them.
 //! This solves `\x.U[x] = \x.f x` and shows what the hole U, record 4, stands for:
 //!
 //! ```
-//! use tanczotka::{read, show, solve, text};
+//! use tanczotka::{read, show, solve, text, write_to_vec};
 //!
 //! let none = u32::MAX;
 //! let records: [(&[u8; 2], u32, u32, u32); 14] = [
@@ -33,6 +33,7 @@
 //!
 //! let mut table = [0; 4 * 64];
 //! let n = read(&file, &mut table).used.into();
+//! assert_eq!(write_to_vec(&table, n), Ok(file));
 //! let (mut solutions, mut queue, mut output) = ([0; 64], [0; 2 * 16], [0; 4 * 16]);
 //!
 //! let reply = solve(&mut table, n, &mut solutions, &mut queue);
@@ -53,6 +54,10 @@ pub use text::text;
 
 /// The word that stands for "no record".
 pub const NONE: u32 = u32::MAX;
+
+/// The most records that a problem file can have, and the bytes of each.
+const FILE_RECORDS: usize = 2048;
+const RECORD_BYTES: usize = 14;
 
 extern "C" {
     fn tanczotka_solve(
@@ -79,6 +84,8 @@ extern "C" {
     ) -> u64;
 
     fn tanczotka_read(file: *const u8, file_len: usize, table: *mut u32, table_len: usize) -> u64;
+
+    fn tanczotka_write(table: *const u32, table_len: usize, n: usize, file: *mut u8, file_len: usize) -> u64;
 }
 
 /// Solves the problem in the first `n` records of the table.
@@ -134,4 +141,24 @@ pub fn read(file: &[u8], table: &mut [u32]) -> Reply {
     // SAFETY: as in `solve`; the file is only read.
     let packed = unsafe { tanczotka_read(file.as_ptr(), file.len(), table.as_mut_ptr(), table.len()) };
     Reply::of_packed(packed)
+}
+
+/// Writes the first `n` records of the table as a problem file, whose bytes are the file's first.
+#[inline]
+pub fn write(table: &[u32], n: usize, file: &mut [u8]) -> Reply {
+    // SAFETY: as in `solve`; the table is only read.
+    let packed = unsafe { tanczotka_write(table.as_ptr(), table.len(), n, file.as_mut_ptr(), file.len()) };
+    Reply::of_packed(packed)
+}
+
+/// The first `n` records of the table as a problem file, or why they are not written.
+#[inline]
+pub fn write_to_vec(table: &[u32], n: usize) -> Result<Vec<u8>, Reply> {
+    let mut file = vec![0; RECORD_BYTES * n.min(FILE_RECORDS)];
+    let reply = write(table, n, &mut file);
+    if reply.answer == 0 {
+        Ok(file)
+    } else {
+        Err(reply)
+    }
 }

@@ -24,7 +24,7 @@ impl Reply {
 
     /// The answer in words.
     pub fn words(self) -> &'static str {
-        const WORDS: [&str; 14] = [
+        const WORDS: [&str; 15] = [
             "solved",
             "clash: different rigid heads meet",
             "escape: a variable has no place in the solved hole's context",
@@ -39,6 +39,7 @@ impl Reply {
             "output full",
             "a file of no allowed length",
             "unknown mark",
+            "file full",
         ];
         WORDS.get(usize::from(self.answer)).unwrap_or(&"unknown answer")
     }

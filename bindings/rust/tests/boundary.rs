@@ -1,6 +1,6 @@
 //! The boundary: replies, left-behind words, empty slices and odd lengths.
 
-use tanczotka::{read, show, solve, text, Reply, NONE};
+use tanczotka::{read, show, solve, text, write, write_to_vec, Reply, NONE};
 
 /// `\x.U[x] = \x.f x` as records.
 const PROBLEM: [[u32; 4]; 14] = [
@@ -75,6 +75,8 @@ fn empty_slices_are_lent_as_they_are() {
     assert_eq!(show(&mut [], 0, &mut [], &mut [], 0, &mut []), reply(10, 0, 0));
     assert_eq!(read(&[], &mut []), reply(0, 0, 0));
     assert_eq!(read(b"BT\0\0\0\0\0\0\0\0\0\0\0\0", &mut []), reply(4, 0, 0));
+    assert_eq!(write(&[], 0, &mut []), reply(0, 0, 0));
+    assert_eq!(write(&[], usize::MAX, &mut []), reply(4, 0, 0));
 }
 
 #[test]
@@ -85,6 +87,41 @@ fn reading_refuses_lengths_and_marks() {
     assert_eq!(table, [77; 9]);
     assert_eq!(read(b"BT\x01\x02\0\0\0\0\0\0\0\0\0\x80", &mut table), reply(0, 0, 1));
     assert_eq!(table, [1, 0x201, 0, 0x8000_0000, 77, 77, 77, 77, 77]);
+}
+
+#[test]
+fn what_is_written_is_read_again_and_bytes_past_it_stay() {
+    let mut file = vec![77; 14 * 14 + 3];
+    assert_eq!(write(&table(60), 14, &mut file), reply(0, 0, 14));
+    assert_eq!(file[..16], *b"BT\0\0\0\0\0\0\0\0\0\0\0\0AR");
+    assert_eq!(file[14 * 3..14 * 4], *b"CE\0\0\0\0\xff\xff\xff\xff\0\0\0\0");
+    assert_eq!(file[14 * 13..], *b"EQ\x08\0\0\0\x0c\0\0\0\x01\0\0\0MMM");
+    let mut again = vec![77; 60];
+    assert_eq!(read(&file[..14 * 14], &mut again), reply(0, 0, 14));
+    assert_eq!(again, table(60));
+    assert_eq!(write_to_vec(&again, 14).as_deref(), Ok(&file[..14 * 14]));
+}
+
+#[test]
+fn writing_refuses_and_leaves_every_byte() {
+    let table = [1, 0, 0, 0, 6, 1, 0, 0, 77, 77];
+    let mut file = [77; 13];
+    assert_eq!(write(&table, 3, &mut file), reply(4, 0, 0));
+    assert_eq!(write(&table, 2, &mut file), reply(5, 1, 0));
+    assert_eq!(write(&table, 1, &mut file), reply(14, 0, 0));
+    assert_eq!(write(&table, 0, &mut file), reply(0, 0, 0));
+    assert_eq!(file, [77; 13]);
+    assert_eq!(write_to_vec(&table, 2), Err(reply(5, 1, 0)));
+    assert_eq!(write_to_vec(&table, 1).as_deref(), Ok(&b"BT\0\0\0\0\0\0\0\0\0\0\0\0"[..]));
+    assert_eq!(reply(14, 0, 0).words(), "file full");
+}
+
+#[test]
+fn a_file_has_at_most_2048_records() {
+    let bases: Vec<u32> = (0..2049).flat_map(|k| [1, k, 0, 0]).collect();
+    assert_eq!(write_to_vec(&bases, 2048).map(|file| file.len()), Ok(28672));
+    assert_eq!(write_to_vec(&bases, 2049), Err(reply(4, 0, 0)));
+    assert_eq!(write(&bases, 2048, &mut [0; 28671]), reply(14, 0, 0));
 }
 
 #[test]

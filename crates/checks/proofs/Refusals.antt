@@ -34,7 +34,6 @@ use Rattle.checks.specs.declared.Asked.the-variants.{Solving, Record as 
 use Rattle.checks.specs.declared.Refusal.{Refusal}
 use Rattle.checks.specs.declared.Refusal.the-variants.{Admitted, Refused}
 use Rattle.checks.specs.Refusing.{isHole, asks, typed, asking, sound, outside, Says, TermsSay, AskedAsks, Settled}
-use Rattle.checks.specs.RefusingLaws.{long, room}
 
 -- the reply to a refusal is that to its case
 pub refusing-case : (x y : Why) (r : Reply) → x ≡ y → refusing y ≡ r → refusing x ≡ r

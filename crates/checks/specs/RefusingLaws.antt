@@ -1,31 +1,16 @@
 -- What an input that is refused, or admitted, is.
-use Prim.Native.Nat.{ℕ, _*_, _<_, _≤_}
+use Prim.Native.Nat.{ℕ, _*_, _≤_}
 use mathlib.Core.Path.{_≡_, refl}
 use mathlib.Core.List.{List}
 use mathlib.Core.Bool.{Bool, true, false}
 use native.Mathlib.Omega.{arith}
-use lib.ListN.{length, getD, replicate, length-replicate, getD-replicate}
+use lib.ListN.{length}
 use borrow.Author.Tests.{ltb-false}
 use Rattle.rules.specs.declared.Refused.the-variants.{NoRoom}
 use Rattle.rules.specs.Lists.{either}
 use Rattle.rules.specs.Answers.{records}
-use Rattle.records.specs.Rows.{Room, BrokenAsks}
 use Rattle.rules.specs.Solve.{Refusal as Refuses, refused, refusal}
 use Rattle.checks.specs.Refusing.{typed, asking, sound, outside}
-
--- arrays of k zeros serve for at most k records
-module _ (k : ℕ) (small : k ≤ 4096) (ws : List ℕ) (n : ℕ) (le : n ≤ k) where
-  pub long : n ≤ length (replicate {A = ℕ} k 0)
-  long = simp length-replicate le
-
-  pub room : Room (replicate k 0) (replicate k 0) (replicate k 0) n
-  room = record { marks = long; last = long; before = long }
-
-  pub zeros-ask : 4 * n ≤ length ws → BrokenAsks ws (replicate k 0) (replicate k 0) (replicate k 0) (replicate k 0) n
-  zeros-ask inside = record { inside = inside; few = omega arith; blank = record { room = room; last = zeros }; equations = long }
-    where
-      zeros : (x : ℕ) → x < length (replicate {A = ℕ} k 0) → getD {A = ℕ} (replicate k 0) x 0 ≡ 0
-      zeros x l = getD-replicate {A = ℕ} k x 0 0 (simp length-replicate at l)
 
 -- 4, then the others
 module _ (ws ss : List ℕ) (n : ℕ) where

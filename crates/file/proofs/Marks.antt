@@ -10,11 +10,10 @@ use borrow.Author.Tests.{eq-eqb, ne-eqb}
 use Rattle.rules.specs.declared.Found.{Found}
 use Rattle.rules.specs.declared.Found.the-variants.{At, Nowhere}
 use Rattle.rules.specs.Lists.{both, first}
-use Rattle.rules.specs.File.{marks, byte, marked, isKnown}
-use Rattle.file.specs.Marks.{tagOf}
+use Rattle.rules.specs.File.{marks, tagOf, byte, marked, isKnown}
 
 pub marked-by : (bs : List ℕ) (r : ℕ) (f : Found) → tagOf (byte bs (14 * r)) (byte bs (14 * r + 1)) ≡ f → marked bs r ≡ f
-unfolding marked tagOf
+unfolding marked
 marked-by bs r f e = e
 
 module _ (bs : List ℕ) (r : ℕ) (f : Found) (e : marked bs r ≡ f) where

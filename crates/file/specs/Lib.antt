@@ -1,3 +1,2 @@
-pub mod Marks  -- the tag of a mark, by its two bytes
 pub mod Writing  -- a file record as a record of the table
 pub mod Single  -- two replies that the promise allows are equal

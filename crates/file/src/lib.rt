@@ -9,8 +9,7 @@ ghost use Prim.Native.Nat.{_+_, _*_, _<_, _≤_};
 ghost use lib.ListN.{length, drop};
 ghost use Rattle.rules.specs.Lists.{lowest};
 ghost use Rattle.rules.specs.Answers.{reply as replyOf, unreading as unreadingOf};
-ghost use Rattle.rules.specs.File.{marked, word, isKnown, tagWord, fileWords, read as readOf};
-ghost use Rattle.file.specs.Marks.{tagOf};
+ghost use Rattle.rules.specs.File.{tagOf, marked, word, isKnown, tagWord, fileWords, read as readOf};
 ghost use Rattle.file.specs.Writing.{stored, Fitting};
 
 // A byte as a wider number.

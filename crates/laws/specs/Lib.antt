@@ -8,3 +8,8 @@ pub mod Search  -- a search record by record
 pub mod Places  -- a type, a term, a list of a legal table
 pub mod Noted  -- numbers that pass a test, noted in order
 pub mod Digits  -- decimal digits, whatever the fuel
+pub mod Rows  -- rows of one length, one after another
+pub mod FileRows  -- a file's records as rows
+pub mod FileRecords  -- the bytes and the words of one record give each other back
+pub mod Files  -- reading and writing a file undo one another
+pub mod FileRefused  -- writing refuses the records that solving refuses

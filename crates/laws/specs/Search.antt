@@ -41,6 +41,26 @@ first-below (suc k) ok i r e = go (ok i) refl (first-below k ok (i + 1) r)
     go true q ih = let z : At i ≡ At r = (rw (q, first) at e) in let y : i ≡ r = cc in omega arith
     go false q ih = let l = ih (rw (q, first) at e) in omega arith
 
+-- what is found passes
+pub first-passes : (k : ℕ) (ok : ℕ → Bool) (i r : ℕ) → first k ok i ≡ At r → ok r ≡ true
+unfolding first
+first-passes zero ok i r e = absurd (let z : Nowhere ≡ At r = e in let y : _≡_ {A = ℕ} 0 1 = cc in omega arith)
+first-passes (suc k) ok i r e = go (ok i) refl (first-passes k ok (i + 1) r)
+  where
+    go : (b : Bool) → ok i ≡ b → (first k ok (i + 1) ≡ At r → ok r ≡ true) → ok r ≡ true
+    go true q ih = let z : At i ≡ At r = (rw (q, first) at e) in let y : i ≡ r = cc in rw (← y) q
+    go false q ih = ih (rw (q, first) at e)
+
+first-nowhere : (k : ℕ) (ok : ℕ → Bool) (i : ℕ) → ((j : ℕ) → i ≤ j → j < i + k → ok j ≡ false) → first k ok i ≡ Nowhere
+unfolding first
+first-nowhere zero ok i h = refl
+first-nowhere (suc k) ok i h = rw (h i (omega arith) (omega arith), first) (first-nowhere k ok (i + 1) (λ j a b. h j (omega arith) (omega arith)))
+
+-- where none passes nothing is found
+pub lowest-nowhere : (n : ℕ) (ok : ℕ → Bool) → ((j : ℕ) → j < n → ok j ≡ false) → lowest n ok ≡ Nowhere
+unfolding lowest
+lowest-nowhere n ok h = first-nowhere n ok 0 (λ j a b. h j (omega arith))
+
 -- what is found is below n
 pub lowest-below : (n : ℕ) (ok : ℕ → Bool) (r : ℕ) → lowest n ok ≡ At r → r < n
 unfolding lowest

@@ -1,14 +1,14 @@
 -- A table of which no record is broken, read field by field: every reference goes to a lower record of the right kind, every rest is like its cell.
 use Prim.Native.Nat.{ℕ, _<_, _≤_}
-use mathlib.Core.Path.{_≡_, ap}
+use mathlib.Core.Path.{_≡_, refl, ap}
 use mathlib.Core.List.{List}
-use mathlib.Core.Bool.{Bool, true, not}
+use mathlib.Core.Bool.{Bool, true, false, not}
 use mathlib.Core.Logic.{_⊎_, inl, inr}
 use native.Mathlib.Omega.{arith}
 use native.Mathlib.Decide.{ℕ-discrete}
-use lib.ListN.{length, getD}
+use lib.ListN.{length, getD, List·getD-eq-default}
 use lib.Dec.{eqb, ltb, leb}
-use borrow.Author.Tests.{ltb-true, leb-true, eqb-true, not-false}
+use borrow.Author.Tests.{ltb-true, ltb-false, leb-true, eqb-true, not-false}
 use Rattle.rules.specs.declared.Found.the-variants.{Nowhere}
 use Rattle.rules.specs.Lists.{both, either}
 use Rattle.rules.specs.Words.{tag, fieldA, fieldB, fieldC, NONE, BT, AR, KO, HO, CE, LA, CA, VA, HA, EQ, has, isType, isTerm, cells}
@@ -57,6 +57,22 @@ module _ (ws : List ℕ) (n : ℕ) (g : Sound ws n) (r : ℕ) (h : r < n) where
 
   kind : (ok : ℕ → Bool) (x : ℕ) → both (ltb x r) (ok x) ≡ true → Kind ok x
   kind ok x e = let p = both-true _ _ e in (ltb-true _ _ (p .0), p .1)
+
+  -- a record of which something is right has one of the ten tags
+  pub known-tag : (BT ≤ tag ws r) × (tag ws r ≤ EQ)
+  unfolding shape shapes shaped fits both
+  known-tag = (low (ℕ-discrete (tag ws r) 0), high (ltb EQ (tag ws r)) refl)
+    where
+      unknown : shape ws r ≡ (never, never, never) → ⊥
+      unknown e = false-true (rw e at shaped-so)
+
+      low : Dec (tag ws r ≡ 0) → BT ≤ tag ws r
+      low (yes e) = absurd (unknown (rw e))
+      low (no z) = omega arith
+
+      high : (b : Bool) → ltb EQ (tag ws r) ≡ b → tag ws r ≤ EQ
+      high true q = let l : length shapes ≤ tag ws r = ltb-true _ _ q in absurd (unknown (List·getD-eq-default shapes (never, never, never) l))
+      high false q = ltb-false _ _ q
 
   pub arrow-fields : tag ws r ≡ AR → Kind (isType ws) (fieldA ws r) × Kind (isType ws) (fieldB ws r)
   unfolding shape shapes fits

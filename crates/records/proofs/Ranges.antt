@@ -1,5 +1,5 @@
 -- The kind of a record, as its mark tells it: ranges of numbers for tags, for lists of types and for lists of terms.
-use Prim.Native.Nat.{ℕ, suc, _+_, _<_, _≤_}
+use Prim.Native.Nat.{ℕ, _+_, _<_, _≤_}
 use mathlib.Core.Path.{_≡_, refl, sym, ap, _∙_}
 use mathlib.Core.Bool.{Bool, true, false, not}
 use mathlib.Core.List.{List}
@@ -7,13 +7,13 @@ use mathlib.Core.Logic.{_⊎_, inl, inr}
 use native.Mathlib.Omega.{arith}
 use native.Mathlib.Decide.{ℕ-discrete}
 use borrow.Author.Tests.{ltb-true, ltb-false, leb-true, eq-eqb, ne-eqb, lt-leb, le-leb}
-use lib.ListN.{length, List·getD-eq-default}
+use lib.ListN.{length}
 use lib.Dec.{eqb, ltb, leb}
 use Rattle.rules.specs.Lists.{both, either}
 use Rattle.rules.specs.Words.{CE, EQ, tag, fieldA, has, isType, isTerm}
-use Rattle.rules.specs.Records.{never, shapes, shape, fits, shaped, alike, listed, keeps}
+use Rattle.rules.specs.Records.{shapes, shape, fits, shaped, alike, listed, keeps}
 use Rattle.laws.specs.Tests.{false-true, both-true, both-no, either-true, both-alone}
-use Rattle.laws.specs.Sound.{Sound, type-term}
+use Rattle.laws.specs.Sound.{Sound, known-tag, type-term}
 use Rattle.laws.specs.Lists.{cells-more}
 use Rattle.records.specs.Ranges.{TYPE-LOW, TYPE-HIGH, TERM-LOW, TERM-HIGH, MOST-CELLS, LIST-OF-TYPES, TYPES-LOW, TYPES-HIGH, TERMS-LOW, TERMS-HIGH}
 use Rattle.records.specs.Marks.{countedFrom, cellCount, kind, within}
@@ -110,17 +110,6 @@ module _ (ws : List ℕ) (r : ℕ) (g : Sound ws r) (x : ℕ) (h : x < r) where
   unfolding keeps
   shaped-so = both-true _ _ (g x h) .0
 
-  known : tag ws x ≤ EQ
-  unfolding shape shapes shaped fits both
-  known = go (ltb (tag ws x) (suc EQ)) refl
-    where
-      none : EQ < tag ws x → shape ws x ≡ (never, never, never)
-      none l = let m : length shapes ≤ tag ws x = omega arith in List·getD-eq-default shapes (never, never, never) m
-
-      go : (b : Bool) → ltb (tag ws x) (suc EQ) ≡ b → tag ws x ≤ EQ
-      go true q = let l = ltb-true (tag ws x) (suc EQ) q in omega arith
-      go false q = absurd (false-true (rw (none (ltb-false _ _ q)) at shaped-so))
-
   module _ (e : tag ws x ≡ CE) where
     -- a list that begins below r is not too long
     pub short : cellCount ws x ≤ MOST-CELLS
@@ -145,7 +134,7 @@ module _ (ws : List ℕ) (r : ℕ) (g : Sound ws r) (x : ℕ) (h : x < r) where
         go (yes c) = ap (within low high) (kind-cell ws x c) ∙ each _ _ (some c f) (short c) ∙ (unfold both in rw (eq-eqb _ _ c))
         go (no c) =
             let k = kind-other ws x c in
-            let m = known in
+            let m = known-tag ws r g x h .1 in
             within-low low high (kind ws x) (omega arith) ∙ (unfold both in rw (ne-eqb _ _ c))
 
     pub kind-types : within TYPES-LOW TYPES-HIGH (kind ws x) ≡ both (has ws x CE) (isType ws (fieldA ws x))

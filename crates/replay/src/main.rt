@@ -1,5 +1,5 @@
 // Replays stored problems: each is read from standard input, as `independent replay-in` writes it, and the replies and every word that
-// solve, show and read leave are printed.
+// solve, show, read and write leave are printed.
 use rules::Reply;
 use stored::PROBLEMS;
 use stored::fill;
@@ -177,6 +177,55 @@ fn file_problem(line: &mut [u8]) -> bool {
     read_words(&mut bytes, first + t) && read_file(line, &bytes, f, first, t)
 }
 
+// The first n records of a table, whose words stand first, are written to a file of f bytes, which stand after them; the file is printed as words.
+fn write(
+    line: &mut [u8],
+    bytes: &mut [u8],
+    n: usize,
+    f: usize,
+    table: &mut [u32],
+    file: &mut [u32],
+) -> bool
+    requires { ⌜ (f ≤ 4 * length (now file)) × (4 * (length (now table) + length (now file)) ≤ length (now bytes)) ⌝ }
+{
+    let first = fill(bytes, 0, table);
+    let start = 4 * first;
+    let end = start + f;
+    let reply = write::write(table, n, &mut bytes[start..end]);
+    fill(bytes, first, file);
+    print_reply(line, b"write", reply) && print_words(line, b"file", file)
+}
+
+// A table of t words and a file of f bytes after it, in so many words, from their bytes.
+fn write_bytes(
+    line: &mut [u8],
+    bytes: &mut [u8],
+    n: usize,
+    t: usize,
+    f: usize,
+    words: usize,
+) -> bool
+    requires { ⌜ (f ≤ 4 * words) × (t + words ≤ 24000) × (4 * (t + words) ≤ length (now bytes)) ⌝ }
+{
+    let mut table = [0u32; 24000];
+    let mut file = [0u32; 24000];
+    write(line, bytes, n, f, &mut table[..t], &mut file[..words])
+}
+
+// A problem of the third kind: n, how many words the table and how many bytes the file has, then these words and bytes.
+fn table_problem(line: &mut [u8]) -> bool {
+    let mut head = [0u8; 12];
+    if !read_words(&mut head, 3) {
+        return false;
+    }
+    let n = word(&head, 0) as usize;
+    let t = word(&head, 1) as usize;
+    let f = word(&head, 2) as usize;
+    let words = (f + 3) / 4;
+    let mut bytes = [0u8; 96000];
+    read_words(&mut bytes, t + words) && write_bytes(line, &mut bytes, n, t, f, words)
+}
+
 // One problem is replayed; false at the end of the input too.
 fn replay(line: &mut [u8]) -> bool {
     let mut kind = [0u8; 4];
@@ -186,6 +235,7 @@ fn replay(line: &mut [u8]) -> bool {
     match word(&kind, 0) {
         1 => problem(line),
         2 => file_problem(line),
+        3 => table_problem(line),
         _ => {
             stop(b"an unknown kind of problem");
             false

@@ -14,10 +14,11 @@ use Rattle.rules.specs.Answers.{refusing, records}
 use Rattle.rules.specs.Solve.{admitted, refusal, Behind, leaves}
 use Rattle.invariants.specs.Admit.{Admitted, refusal-says}
 use Rattle.promise.specs.Admitting.{admitted-is}
+use Rattle.records.specs.ZerosLaws.{zeros-ask}
 use Rattle.checks.specs.declared.Refusal.{Refusal}
 use Rattle.checks.specs.declared.Refusal.the-variants.{Admitted as Admits-all, Refused}
 use Rattle.checks.specs.Refusing.{refusalOf, outside, Settled}
-use Rattle.checks.specs.RefusingLaws.{outside-refused, inside-sound, in-table, zeros-ask}
+use Rattle.checks.specs.RefusingLaws.{outside-refused, inside-sound, in-table}
 use Rattle.machine.specs.Leaving.{Admits, LeftBehind}
 use Rattle.solving.specs.Checking.{Inside, Checking}
 

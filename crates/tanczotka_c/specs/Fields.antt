@@ -22,6 +22,7 @@ use Rattle.rules.specs.Machine.{Pair, machine}
 use Rattle.rules.specs.Solve.{admitted, refusal, start, Behind, leaves, solve}
 use Rattle.rules.specs.Show.{answer as answerOf, shows, show}
 use Rattle.rules.specs.File.{read, marked, isKnown}
+use Rattle.rules.specs.FileWrite.{write}
 use Rattle.laws.specs.Sound.{Sound, broken-none, lambda-field, equation-fields}
 use Rattle.laws.specs.Search.{lowest-below}
 use Rattle.laws.specs.Members.{Every, none, more, every-so}
@@ -30,6 +31,7 @@ use Rattle.laws.specs.Unrolled.{arguments-every}
 use Rattle.invariants.specs.Start.{blank, records-few}
 use Rattle.invariants.specs.Answers.{solve-low, show-says}
 use Rattle.solver.specs.UsedLaws.{solve-used, show-used, read-used}
+use Rattle.write.specs.SaysLaws.{write-says}
 use Rattle.tanczotka_c.specs.Packed.{packed}
 
 -- the lowest 16 bits are the answer, the next 16 the place, and what lies above them is used
@@ -164,7 +166,7 @@ read-place bs ws = go (either (ltb 28672 (length bs)) (not (eqb (length bs % 14)
         rw (e, read, f, g) (omega arith, omega arith)
     go false e false f Nowhere g = rw (e, read, f, g) (omega arith, omega arith)
 
--- What each of the three functions replies
+-- What each of the four functions replies
 
 pub solve-fields : (ws ss qs : List ℕ) (n : ℕ) → Fields (solve ws ss qs n .said)
 unfolding solve
@@ -186,3 +188,6 @@ read-fields bs ws =
     let a = s .0 in
     let p = s .1 in
     low-fields _ (omega arith) (omega arith) (read-used bs ws _ _ refl)
+
+pub write-fields : (ws : List ℕ) (n : ℕ) (bs : List ℕ) → Fields (write ws n bs .said)
+write-fields ws n bs = let s = write-says ws n bs in low-fields _ (omega arith) (omega arith) (omega arith)

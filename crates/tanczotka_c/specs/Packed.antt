@@ -6,6 +6,7 @@ use Rattle.rules.specs.declared.Reply.{Reply}
 use Rattle.rules.specs.Solve.{Behind, solve}
 use Rattle.rules.specs.Show.{Shown, show}
 use Rattle.rules.specs.File.{Read, read}
+use Rattle.rules.specs.FileWrite.{Wrote, write}
 
 -- answer, place and used, 65,536 apart
 unfoldable pub packed : Reply → ℕ
@@ -20,6 +21,9 @@ leftByShow x = (x .behind .table, x .behind .solutions, x .behind .queue, x .out
 
 unfoldable pub leftByRead : Read → List ℕ × ℕ
 leftByRead f = (f .table, packed (f .said))
+
+unfoldable pub leftByWrite : Wrote → List ℕ × ℕ
+leftByWrite f = (f .file, packed (f .said))
 
 pub packs : (r : Reply) → packed r ≡ r .answer + 65536 * r .place + 4294967296 * r .used
 unfolding packed
@@ -40,3 +44,8 @@ module _ (bs ws : List ℕ) where
   pub read-packs : (ws₁ : List ℕ) (r : Reply) (k : ℕ) → read bs ws ≡ record { table = ws₁; said = r } → packed r ≡ k → leftByRead (read bs ws) ≡ (ws₁, k)
   unfolding leftByRead
   read-packs ws₁ r k e p = rw (e, p)
+
+module _ (ws : List ℕ) (n : ℕ) (bs : List ℕ) where
+  pub write-packs : (bs₁ : List ℕ) (r : Reply) (k : ℕ) → write ws n bs ≡ record { file = bs₁; said = r } → packed r ≡ k → leftByWrite (write ws n bs) ≡ (bs₁, k)
+  unfolding leftByWrite
+  write-packs bs₁ r k e p = rw (e, p)

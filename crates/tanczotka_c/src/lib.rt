@@ -1,14 +1,16 @@
-// The C boundary: solving, showing and reading under the C calling convention, each reply packed into one number.
+// The C boundary: solving, showing, reading and writing under the C calling convention, each reply packed into one number.
 use file::read;
 use rules::Reply;
 use solver::show;
 use solver::solve;
+use write::write;
 ghost use mathlib.Core.Path.{_≡_};
 ghost use Prim.Native.Nat.{_≤_};
 ghost use Rattle.rules.specs.Solve.{solve as solveOf};
 ghost use Rattle.rules.specs.Show.{show as showOf};
 ghost use Rattle.rules.specs.File.{read as readOf};
-ghost use Rattle.tanczotka_c.specs.Packed.{packed, leftBySolve, leftByShow, leftByRead};
+ghost use Rattle.rules.specs.FileWrite.{write as writeOf};
+ghost use Rattle.tanczotka_c.specs.Packed.{packed, leftBySolve, leftByShow, leftByRead, leftByWrite};
 
 // Answer, place and used in 16-bit fields, lowest first; the fourth is 0.
 fn pack(reply: Reply) -> u64
@@ -57,5 +59,14 @@ pub extern "C" fn tanczotka_read(file: &[u8], table: &mut [u32]) -> u64
     ensures { λ r. ⌜ leftByRead (readOf (now (file .entry)) (now (table .entry))) ≡ (now (table .exit), r) ⌝ }
 {
     let reply = read(file, table);
+    pack(reply)
+}
+
+// Writing the first n records of a table to a problem file.
+#[no_mangle]
+pub extern "C" fn tanczotka_write(table: &[u32], n: usize, file: &mut [u8]) -> u64
+    ensures { λ r. ⌜ leftByWrite (writeOf (now (table .entry)) n (now (file .entry))) ≡ (now (file .exit), r) ⌝ }
+{
+    let reply = write(table, n, file);
     pack(reply)
 }

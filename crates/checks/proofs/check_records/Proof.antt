@@ -1,7 +1,7 @@
 -- `checks::check_records` meets its contract.
 use native.Mathlib.Omega.{arith}
 use borrow.Author.Needs.{needs}
-use Rattle.checks.specs.RefusingLaws.{zeros-ask}
+use Rattle.records.specs.ZerosLaws.{zeros-ask}
 use Rattle.checks.proofs.Order.{solving-sound}
 use Rattle.checks.proofs.check_records.Statement.{statement}
 use Rattle.checks.proofs.check_records.Tie as tie

@@ -3,8 +3,7 @@ use mathlib.Core.Path.{refl}
 use native.Mathlib.Omega.{arith}
 use borrow.Author.Needs.{needs}
 use Rattle.rules.specs.Lists.{first, both}
-use Rattle.rules.specs.File.{marks}
-use Rattle.file.specs.Marks.{tagOf}
+use Rattle.rules.specs.File.{marks, tagOf}
 use Rattle.file.proofs.Marks.{tag-is, tag-unknown}
 use Rattle.file.proofs.tag_of_mark.Statement.{statement}
 use Rattle.file.proofs.tag_of_mark.Tie as tie
