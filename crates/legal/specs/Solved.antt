@@ -1,20 +1,23 @@
--- After solving with answer 0 the records in use form a legal table again, within the room; and no answer changes how much room there is.
-use Prim.Native.Nat.{ℕ, zero, suc, _+_, _*_, _-_, _<_, _≤_}
+-- After solving with answer 0 the records in use form a legal table again, within the room, so that they can be written to a file.
+use Prim.Native.Nat.{ℕ, _*_, _-_, _≤_}
 use mathlib.Core.Path.{_≡_, refl, _∙_}
 use mathlib.Core.List.{List}
-use mathlib.Core.Bool.{Bool, true, false, not}
+use mathlib.Core.Bool.{true, not}
 use native.Mathlib.Omega.{arith}
 use lib.ListN.{length}
+use borrow.Author.Tests.{le-ltb}
 use Rattle.rules.specs.declared.Failure.{Failure}
 use Rattle.rules.specs.declared.Failure.the-variants.{Clash, Escape, Occurs, QueueFull, TableFull}
 use Rattle.rules.specs.declared.Found.the-variants.{Nowhere}
-use Rattle.rules.specs.Lists.{first, lowest}
+use Rattle.rules.specs.Lists.{either}
 use Rattle.rules.specs.Words.{NONE}
-use Rattle.rules.specs.Answers.{number, records, pairs}
+use Rattle.rules.specs.Answers.{number, reply, records, pairs}
 use Rattle.rules.specs.Records.{keeps, broken}
 use Rattle.rules.specs.Store.{Store, Out, goes, fails, spent}
 use Rattle.rules.specs.Machine.{Pair, machine}
+use Rattle.rules.specs.FileWrite.{write}
 use Rattle.rules.specs.Solve.{Refusal, admitted, refused, refusal, start, leaves, solve}
+use Rattle.laws.specs.Search.{lowest-nowhere}
 use Rattle.laws.specs.Sound.{Sound}
 use Rattle.invariants.specs.Admit.{Says, refusal-says}
 use Rattle.invariants.specs.Machine.{Ended, machine-ended}
@@ -25,15 +28,9 @@ use Rattle.legal.specs.Sane.{Sane}
 use Rattle.legal.specs.Ran.{Ran}
 use Rattle.legal.specs.Start.{machine-ran}
 
--- a search that finds nothing
-first-nowhere : (k : ℕ) (ok : ℕ → Bool) (i : ℕ) → ((j : ℕ) → j < i + k → ok j ≡ false) → first k ok i ≡ Nowhere
-unfolding first
-first-nowhere zero ok i h = refl
-first-nowhere (suc k) ok i h = rw (h i (omega arith), first) (first-nowhere k ok (i + 1) (λ j l. h j (omega arith)))
-
 sound-broken : (ws : List ℕ) (n : ℕ) → Sound ws n → broken ws n ≡ Nowhere
-unfolding broken lowest
-sound-broken ws n g = first-nowhere n (λ r. not (keeps ws r)) 0 (λ j l. rw (g j (omega arith)))
+unfolding broken
+sound-broken ws n g = lowest-nowhere n (λ r. not (keeps ws r)) (λ j l. rw (g j l))
 
 number-some : (e : Failure) → 1 ≤ number e
 unfolding number
@@ -93,3 +90,12 @@ solved-length ws ss qs n = said (refusal true ws ss n) refl (refusal-says true w
 pub solved-records : (ws ss qs : List ℕ) (n : ℕ) → records (solve ws ss qs n .table) ≡ records ws
 unfolding records
 solved-records ws ss qs n = rw (solved-length ws ss qs n)
+
+-- a solved table can be handed on: its records in use, up to 2,048 of them, are written to any file that holds them
+pub solved-written : (ws ss qs : List ℕ) (n : ℕ) (bs : List ℕ) → solve ws ss qs n .said .answer ≡ 0 → solve ws ss qs n .said .used ≤ 2048 → 14 * solve ws ss qs n .said .used ≤ length bs
+    → write (solve ws ss qs n .table) (solve ws ss qs n .said .used) bs .said ≡ reply 0 0 (solve ws ss qs n .said .used)
+unfolding write either
+solved-written ws ss qs n bs e few room =
+    let u = solve ws ss qs n .said .used in
+    let held : u ≤ records (solve ws ss qs n .table) = rw (solved-records ws ss qs n) (solved-within ws ss qs n e) in
+    rw (le-ltb _ _ held, le-ltb _ _ few, solved-legal ws ss qs n e, le-ltb _ _ room, write)

@@ -1,5 +1,5 @@
 -- Where the machine starts on an admitted table, the store is sane and the sides of the equations are in scope; so it is sane where the machine goes on.
-use Prim.Native.Nat.{ℕ, _*_, _-_, _<_}
+use Prim.Native.Nat.{ℕ, _-_, _<_}
 use mathlib.Core.Path.{_≡_, refl}
 use mathlib.Core.List.{List, [], _∷_, map}
 use mathlib.Core.Bool.{true}
@@ -16,14 +16,14 @@ use Rattle.laws.specs.Sound.{equation-fields}
 use Rattle.laws.specs.Members.{Legal}
 use Rattle.invariants.specs.Floor.{All}
 use Rattle.invariants.specs.Grow.{all-map}
-use Rattle.invariants.specs.Start.{filled-below, records-room}
+use Rattle.invariants.specs.Start.{records-room}
 use Rattle.trees.specs.Tree.{Tree, HasTy, at}
 use Rattle.trees.specs.Tree.{Ty}
 use Rattle.promise.specs.Table.{constants, holes}
-use Rattle.promise.specs.Reading.{Same, one, Reads, reads-later}
+use Rattle.promise.specs.Reading.{one, Reads, reads-later}
 use Rattle.promise.specs.State.{reads-below}
 use Rattle.promise.specs.Admitting.{Admitted, admitted-reads, low}
-use Rattle.promise.specs.Starting.{equations-same, start-holds}
+use Rattle.promise.specs.Starting.{equations-same, start-holds, start-same}
 use Rattle.legal.specs.Uses.{those-all}
 use Rattle.legal.specs.Stay.{below-all, term-same, sound-same}
 use Rattle.legal.specs.Sane.{Sane}
@@ -40,10 +40,6 @@ module _ (ws ss : List ℕ) (n : ℕ) (a : Admitted ws ss n) where
   abbrev s : Store
   s = start ws ss n
 
-  start-same : Same n ws (s .words)
-  unfolding start
-  start-same = let r = records-room ws in let l = a .room in record { word = λ i lt. filled-below (4 * n) (4 * (records ws - n)) 0 i ws (omega arith) lt }
-
   given : Legal ws n
   given = let r = records-room ws in let l = a .room in record { inside = omega arith; few = low ws ss n a; sound = a .sound }
 
@@ -56,7 +52,7 @@ module _ (ws ss : List ℕ) (n : ℕ) (a : Admitted ws ss n) where
         held = h .room;
         few = h .fits .small;
         within = h .fits .full;
-        sound = sound-same ws (s .words) n given start-same;
+        sound = sound-same ws (s .words) n given (start-same ws ss n a);
         sols = λ v l z. absurd (z (h .leaves v l refl));
       }
 
@@ -65,13 +61,13 @@ module _ (ws ss : List ℕ) (n : ℕ) (a : Admitted ws ss n) where
   unfolding start
   side x t A r y e =
       let l = reads-below r in
-      let scope = typed-scope (s .words) n n (constants ws n) (holes ws n) (start-holds ws ss n a .declared) (reads-later start-same (le-refl n) r) y (omega arith) in
-      record { under = 0; part = record { below = l; term = rw (term-same ws (s .words) n given start-same x l) e; scope = scope } }
+      let scope = typed-scope (s .words) n n (constants ws n) (holes ws n) (start-holds ws ss n a .declared) (reads-later (start-same ws ss n a) (le-refl n) r) y (omega arith) in
+      record { under = 0; part = record { below = l; term = rw (term-same ws (s .words) n given (start-same ws ss n a) x l) e; scope = scope } }
 
   start-sides : All (Sides s) (equations (s .words) n)
   unfolding equations
   start-sides =
-      rw (equations-same ws (s .words) n start-same)
+      rw (equations-same ws (s .words) n (start-same ws ss n a))
       (all-mapped (Sides s) (λ e. (fieldA ws e, fieldB ws e)) (those (λ e. has ws e EQ) (below n))
       (those-all (λ e. Sides s (fieldA ws e, fieldB ws e)) (λ e. has ws e EQ) (below n)
       (all-map (λ e. e < n) (λ e. has ws e EQ ≡ true → Sides s (fieldA ws e, fieldB ws e)) both-sides (below n) (below-all n))))

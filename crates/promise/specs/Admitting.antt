@@ -11,7 +11,7 @@ use borrow.Author.Tests.{ltb-false, eqb-true, eqb-false, eq-eqb}
 use Rattle.rules.specs.declared.Found.{Found}
 use Rattle.rules.specs.declared.Found.the-variants.{At, Nowhere}
 use Rattle.rules.specs.declared.Refused.the-variants.{NoRoom, Broken, IllTyped, NoPattern}
-use Rattle.rules.specs.Lists.{both, either, those, from, below, first, lowest, least, enough}
+use Rattle.rules.specs.Lists.{both, either, those, from, below, least, enough}
 use Rattle.rules.specs.Words.{tag, fieldA, fieldB, fieldC, NONE, EQ, has, isTerm}
 use Rattle.rules.specs.Answers.{records}
 use Rattle.rules.specs.Records.{broken}
@@ -19,6 +19,7 @@ use Rattle.rules.specs.Typing.{checks, typed, ill-typed}
 use Rattle.rules.specs.Pattern.{offence, no-pattern}
 use Rattle.rules.specs.Solve.{Refusal, admitted, refused, refusal}
 use Rattle.laws.specs.Tests.{false-true, both-true, lowest-none, both-yes}
+use Rattle.laws.specs.Search.{lowest-nowhere}
 use Rattle.laws.specs.Sound.{Sound, broken-none, equation-fields}
 use Rattle.trees.specs.Tree.{Ty, Tree, AllL, at, HasTy}
 use Rattle.promise.specs.Table.{typeOf, treeOf, constants, holes}
@@ -94,12 +95,6 @@ module _ (ok : ℕ → Bool) (P : ℕ → Type 0) where
       go true q (no z) ih = ih ((rw (q, those) at a) .1) (omega arith)
       go false q (yes z) ih = absurd (false-true (sym q ∙ ap ok z ∙ e))
       go false q (no z) ih = ih (rw (q, those) at a) (omega arith)
-
--- a search that finds nothing
-first-nowhere : (k : ℕ) (ok : ℕ → Bool) (i : ℕ) → ((j : ℕ) → i ≤ j → j < i + k → ok j ≡ false) → first k ok i ≡ Nowhere
-unfolding first
-first-nowhere zero ok i h = refl
-first-nowhere (suc k) ok i h = rw (h i (omega arith) (omega arith), first) (first-nowhere k ok (i + 1) (λ j a b. h j (omega arith) (omega arith)))
 
 least-bound : (bound : ℕ) (xs : List ℕ) → least bound xs ≤ bound
 unfolding least
@@ -202,10 +197,10 @@ module _ (ws : List ℕ) (n : ℕ) (g : Sound ws n) (room : n ≤ records ws) (h
       equation-checks ws n g (omega (arith, room)) e l t (x .0) (x .1)
 
   pub typed-nowhere : ill-typed ws n ≡ Nowhere
-  unfolding ill-typed lowest both
-  typed-nowhere = first-nowhere n (λ e. both (has ws e EQ) (not (typed ws e))) 0 (λ e _ l. go e l (has ws e EQ) refl)
+  unfolding ill-typed both
+  typed-nowhere = lowest-nowhere n (λ e. both (has ws e EQ) (not (typed ws e))) (λ e l. go e l (has ws e EQ) refl)
     where
-      go : (e : ℕ) → e < 0 + n → (b : Bool) → has ws e EQ ≡ b → both (has ws e EQ) (not (typed ws e)) ≡ false
+      go : (e : ℕ) → e < n → (b : Bool) → has ws e EQ ≡ b → both (has ws e EQ) (not (typed ws e)) ≡ false
       go e l true q = rw (q, checked e (omega arith) q .0)
       go e l false q = rw q
 

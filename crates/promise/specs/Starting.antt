@@ -74,7 +74,7 @@ module _ (ws ss : List ℕ) (n : ℕ) (a : Admitted ws ss n) where
       (those-each (λ e. has ws e EQ) (Equation ws n) 0 n (λ e _ l q. admitted-reads ws ss n a e (omega arith) q))
 
   -- the words where the machine starts
-  start-same : Same n ws (start ws ss n .words)
+  pub start-same : Same n ws (start ws ss n .words)
   unfolding start
   start-same = record { word = λ i h. filled-below (4 * n) (4 * (records ws - n)) 0 i ws (omega (arith, a .room, records-room ws)) h }
 
