@@ -1,2 +1,2 @@
 pub mod Writing  -- a file record as a record of the table
-pub mod Single  -- two replies that the promise allows are equal
+pub mod SingleLaws  -- two replies that the promise allows are equal

@@ -1,2 +1,2 @@
-pub mod Packed  -- a reply in one number, and that it fits
-pub mod Fields  -- answer, place and used are read back from the number
+pub mod Packed  -- a reply in one number
+pub mod FieldsLaws  -- answer, place and used are read back from the number

@@ -1,3 +1,3 @@
 pub mod Asks  -- what is known where records are judged and written
-pub mod Single  -- two replies that the promise allows are equal
+pub mod SingleLaws  -- two replies that the promise allows are equal
 pub mod SaysLaws  -- what writing replies

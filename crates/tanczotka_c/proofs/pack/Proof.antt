@@ -1,5 +1,5 @@
 -- `tanczotka_c::pack` meets its contract.
-use Rattle.tanczotka_c.specs.Packed.{packs}
+use Rattle.tanczotka_c.proofs.Packed.{packs}
 use borrow.Author.Needs.{needs}
 use Rattle.tanczotka_c.proofs.pack.Statement.{statement}
 use Rattle.tanczotka_c.proofs.pack.Tie as tie

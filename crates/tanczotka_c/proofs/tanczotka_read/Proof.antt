@@ -1,6 +1,6 @@
 -- `tanczotka_c::tanczotka_read` meets its contract.
 use Rattle.solver.specs.UsedLaws.{read-used}
-use Rattle.tanczotka_c.specs.Packed.{read-packs}
+use Rattle.tanczotka_c.proofs.Packed.{read-packs}
 use borrow.Author.Needs.{needs}
 use Rattle.tanczotka_c.proofs.tanczotka_read.Statement.{statement}
 use Rattle.tanczotka_c.proofs.tanczotka_read.Tie as tie

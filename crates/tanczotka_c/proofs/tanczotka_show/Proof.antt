@@ -1,6 +1,6 @@
 -- `tanczotka_c::tanczotka_show` meets its contract.
 use Rattle.solver.specs.UsedLaws.{show-used}
-use Rattle.tanczotka_c.specs.Packed.{show-packs}
+use Rattle.tanczotka_c.proofs.Packed.{show-packs}
 use borrow.Author.Needs.{needs}
 use Rattle.tanczotka_c.proofs.tanczotka_show.Statement.{statement}
 use Rattle.tanczotka_c.proofs.tanczotka_show.Tie as tie

@@ -1,6 +1,6 @@
 -- `tanczotka_c::tanczotka_solve` meets its contract.
 use Rattle.solver.specs.UsedLaws.{solve-used}
-use Rattle.tanczotka_c.specs.Packed.{solve-packs}
+use Rattle.tanczotka_c.proofs.Packed.{solve-packs}
 use borrow.Author.Needs.{needs}
 use Rattle.tanczotka_c.proofs.tanczotka_solve.Statement.{statement}
 use Rattle.tanczotka_c.proofs.tanczotka_solve.Tie as tie

@@ -1,6 +1,6 @@
 -- `tanczotka_c::tanczotka_write` meets its contract.
 use Rattle.write.specs.SaysLaws.{write-used}
-use Rattle.tanczotka_c.specs.Packed.{write-packs}
+use Rattle.tanczotka_c.proofs.Packed.{write-packs}
 use borrow.Author.Needs.{needs}
 use Rattle.tanczotka_c.proofs.tanczotka_write.Statement.{statement}
 use Rattle.tanczotka_c.proofs.tanczotka_write.Tie as tie

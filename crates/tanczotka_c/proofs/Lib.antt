@@ -1,0 +1,1 @@
+pub mod Packed  -- the words left behind and the packed reply are the definition's
