@@ -1,14 +1,13 @@
 -- What is written where show answers.
 use Prim.Native.Nat.{ℕ, _+_, _-_, _*_, _≤_}
-use mathlib.Core.Path.{_≡_, refl, sym, ap, _∙_}
+use mathlib.Core.Path.{_≡_, sym, _∙_}
 use mathlib.Core.List.{List}
 use native.Mathlib.Omega.{arith}
 use lib.ListN.{length}
 use Rattle.rules.specs.declared.Failure.{Failure}
-use Rattle.rules.specs.declared.Reply.{Reply}
 use Rattle.rules.specs.Answers.{reply, too-few, records}
 use Rattle.rules.specs.Solve.{filled, Behind}
-use Rattle.rules.specs.Show.{answer, answering, shows}
+use Rattle.rules.specs.Show.{answer, shows}
 use Rattle.invariants.specs.Floor.{Outside}
 use Rattle.invariants.specs.Start.{records-room}
 use Rattle.store.specs.declared.Walked.{Walked}

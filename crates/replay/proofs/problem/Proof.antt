@@ -1,6 +1,10 @@
 -- `replay::problem` meets its contract: where the words were read, there was room for them.
+use Prim.Native.Nat.{ℕ}
+use mathlib.Core.Path.{sym}
 use native.Mathlib.Omega.{arith}
+use lib.ListN.{length-replicate}
 use borrow.Author.Needs.{needs}
+use borrow.Author.Tests.{not-false}
 use Rattle.replay.proofs.problem.Statement.{statement}
 use Rattle.replay.proofs.problem.Tie as tie
 
@@ -29,12 +33,13 @@ problem-spec =
     (λ c. search needs)
     (λ c κs. search needs)
     (λ c. search needs)
-    (λ c. search needs)
+    (λ c. sym (length-replicate {A = ℕ} 96000 0))
     (λ c. search needs)
     (λ c. search needs)
     (λ c. search needs)
     (λ c κs. search needs)
-    (λ c κs. let room = c .before .before .before .before .read-words2 .ensures (c .before .before .if2 .taken) in omega arith)
     (λ c. search needs)
+    (λ c κs. let room = c .before .before .before .read-words2 .ensures (not-false _ (c .before .if2 .left)) in omega arith)
+    (λ c κs. let read = c .before .before .before .before in let room = read .before .before .read-words2 .ensures (not-false _ (read .if2 .left)) in omega arith)
     (λ c. search needs)
     (λ c. search needs))

@@ -1,0 +1,32 @@
+-- The first words of a cleared array, counted without a look at them.
+use Prim.Native.Nat.{ℕ, _+_, _*_, _≤_}
+use mathlib.Core.Path.{_≡_, sym}
+use mathlib.Core.List.{List}
+use native.Mathlib.Omega.{arith}
+use lib.ListN.{length, take, replicate, length-replicate}
+use lib.Seq.{length-take-le}
+
+-- so many words are lent on
+pub lent : (N k : ℕ) → k ≤ N → k ≡ length (take k (replicate {A = ℕ} N 0))
+lent N k h = let l : length (replicate {A = ℕ} N 0) ≡ N = length-replicate N 0 in sym (length-take-le k (replicate N 0) (omega arith))
+
+-- there are bytes for the words of all that is lent
+pub one-fits : (N t : ℕ) (first bytes : ℕ) → first + t ≤ N → bytes ≡ 4 * N → 4 * (first + length (take t (replicate {A = ℕ} N 0))) ≤ bytes
+one-fits N t first bytes h b = let l = lent N t (omega arith) in omega arith
+
+pub three-fit : (N t s q bytes : ℕ) → t + s + q ≤ N → bytes ≡ 4 * N
+    → 4 * (length (take t (replicate {A = ℕ} N 0)) + length (take s (replicate {A = ℕ} N 0)) + length (take q (replicate {A = ℕ} N 0))) ≤ bytes
+three-fit N t s q bytes h b =
+    let l = lent N t (omega arith) in
+    let m = lent N s (omega arith) in
+    let k = lent N q (omega arith) in
+    omega arith
+
+pub four-fit : (N t s q o bytes : ℕ) → t + s + q + o ≤ N → bytes ≡ 4 * N
+    → 4 * (length (take t (replicate {A = ℕ} N 0)) + length (take s (replicate {A = ℕ} N 0)) + length (take q (replicate {A = ℕ} N 0)) + length (take o (replicate {A = ℕ} N 0))) ≤ bytes
+four-fit N t s q o bytes h b =
+    let i = lent N t (omega arith) in
+    let m = lent N s (omega arith) in
+    let k = lent N q (omega arith) in
+    let j = lent N o (omega arith) in
+    omega arith
