@@ -1,5 +1,5 @@
 -- The first words of a cleared array, counted without a look at them.
-use Prim.Native.Nat.{ℕ, _+_, _*_, _≤_}
+use Prim.Native.Nat.{ℕ, _+_, _*_, _/_, _≤_}
 use mathlib.Core.Path.{_≡_, sym}
 use native.Mathlib.Omega.{arith}
 use lib.ListN.{length, take, replicate, length-replicate}
@@ -29,3 +29,14 @@ four-fit N t s q o bytes h b =
     let k = lent N q (omega arith) in
     let j = lent N o (omega arith) in
     omega arith
+
+-- so many words were read into an array that has room for N
+pub read-fits : (N k : ℕ) → 4 * k ≤ length (replicate {A = ℕ} (4 * N) 0) → k ≤ N
+read-fits N k h = let l : length (replicate {A = ℕ} (4 * N) 0) ≡ 4 * N = length-replicate (4 * N) 0 in omega arith
+
+pub fewer : (N a b : ℕ) → a + b ≤ N → a ≤ N
+fewer N a b h = omega arith
+
+-- the words of so many bytes
+pub rounded : (f : ℕ) → f ≤ 4 * ((f + 3) / 4)
+rounded f = omega arith

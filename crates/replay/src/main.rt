@@ -132,8 +132,9 @@ fn problem() -> bool {
     let s = word(&head, 3) as usize;
     let q = word(&head, 4) as usize;
     let o = word(&head, 5) as usize;
+    let count = t + s + q + o;
     let mut bytes = [0u8; 96000];
-    if !read_words(&mut bytes, t + s + q + o) {
+    if !read_words(&mut bytes, count) {
         return false;
     }
     solve_bytes(&bytes, n, t, s, q) && show_bytes(&bytes, n, hole, t, s, q, o)
@@ -165,8 +166,9 @@ fn file_problem() -> bool {
     let f = word(&head, 0) as usize;
     let t = word(&head, 1) as usize;
     let first = (f + 3) / 4;
+    let count = first + t;
     let mut bytes = [0u8; 96000];
-    read_words(&mut bytes, first + t) && read_file(&bytes, f, first, t)
+    read_words(&mut bytes, count) && read_file(&bytes, f, first, t)
 }
 
 // One problem is replayed; false at the end of the input too.
