@@ -24,30 +24,28 @@ fn start(bytes: &[u8], table: &mut [u32], solutions: &mut [u32], queue: &mut [u3
     fill(bytes, third, queue)
 }
 
-// What solve or show replies, and the words that it leaves; false, here and below, where the program stops, which is said.
-fn print_left(
-    line: &mut [u8],
-    name: &[u8],
-    reply: Reply,
-    table: &[u32],
-    solutions: &[u32],
-    queue: &[u32],
-) -> bool {
-    if !print_reply(line, name, reply) {
-        return false;
-    }
-    if !print_words(line, b"table", table) {
-        return false;
-    }
-    if !print_words(line, b"solutions", solutions) {
-        return false;
-    }
-    print_words(line, b"queue", queue)
+// A line of words; false, here and below, where the program stops, which is said.
+fn print(name: &[u8], words: &[u32]) -> bool {
+    let mut line = [0u8; 270000];
+    print_words(&mut line, name, words)
+}
+
+// The line of a reply.
+fn print_said(name: &[u8], reply: Reply) -> bool {
+    let mut line = [0u8; 64];
+    print_reply(&mut line, name, reply)
+}
+
+// What solve or show replies, and the words that it leaves.
+fn print_left(name: &[u8], reply: Reply, table: &[u32], solutions: &[u32], queue: &[u32]) -> bool {
+    print_said(name, reply)
+        && print(b"table", table)
+        && print(b"solutions", solutions)
+        && print(b"queue", queue)
 }
 
 // A problem is solved.
 fn solve(
-    line: &mut [u8],
     bytes: &[u8],
     n: usize,
     table: &mut [u32],
@@ -58,12 +56,11 @@ fn solve(
 {
     start(bytes, table, solutions, queue);
     let reply = solver::solve(table, n, solutions, queue);
-    print_left(line, b"solve", reply, table, solutions, queue)
+    print_left(b"solve", reply, table, solutions, queue)
 }
 
 // A hole of a problem is shown.
 fn show(
-    line: &mut [u8],
     bytes: &[u8],
     n: usize,
     hole: usize,
@@ -77,34 +74,27 @@ fn show(
     let last = start(bytes, table, solutions, queue);
     fill(bytes, last, output);
     let reply = solver::show(table, n, solutions, queue, hole, output);
-    print_left(line, b"show", reply, table, solutions, queue)
+    print_left(b"show", reply, table, solutions, queue) && print(b"output", output)
 }
 
-// A problem is solved, and a hole of it is shown from the words before.
-fn solve_and_show(
-    line: &mut [u8],
-    bytes: &[u8],
-    n: usize,
-    hole: usize,
-    table: &mut [u32],
-    solutions: &mut [u32],
-    queue: &mut [u32],
-    output: &mut [u32],
-) -> bool
-    requires { ⌜ 4 * (length (now table) + length (now solutions) + length (now queue) + length (now output)) ≤ length (now bytes) ⌝ }
+// A problem with so many words in each slice is solved, from its bytes.
+fn solve_bytes(bytes: &[u8; 96000], n: usize, t: usize, s: usize, q: usize) -> bool
+    requires { ⌜ t + s + q ≤ 24000 ⌝ }
 {
-    if !solve(line, bytes, n, table, solutions, queue) {
-        return false;
-    }
-    if !show(line, bytes, n, hole, table, solutions, queue, output) {
-        return false;
-    }
-    print_words(line, b"output", output)
+    let mut table = [0u32; 24000];
+    let mut solutions = [0u32; 24000];
+    let mut queue = [0u32; 24000];
+    solve(
+        bytes,
+        n,
+        &mut table[..t],
+        &mut solutions[..s],
+        &mut queue[..q],
+    )
 }
 
-// A problem with so many words in each slice, from its bytes.
-fn solve_bytes(
-    line: &mut [u8],
+// A hole of it is shown, from the words before.
+fn show_bytes(
     bytes: &[u8; 96000],
     n: usize,
     hole: usize,
@@ -119,8 +109,7 @@ fn solve_bytes(
     let mut solutions = [0u32; 24000];
     let mut queue = [0u32; 24000];
     let mut output = [0u32; 24000];
-    solve_and_show(
-        line,
+    show(
         bytes,
         n,
         hole,
@@ -132,7 +121,7 @@ fn solve_bytes(
 }
 
 // A problem of the first kind.
-fn problem(line: &mut [u8]) -> bool {
+fn problem() -> bool {
     let mut head = [0u8; 24];
     if !read_words(&mut head, 6) {
         return false;
@@ -143,29 +132,33 @@ fn problem(line: &mut [u8]) -> bool {
     let s = word(&head, 3) as usize;
     let q = word(&head, 4) as usize;
     let o = word(&head, 5) as usize;
+    let count = t + s + q + o;
     let mut bytes = [0u8; 96000];
-    read_words(&mut bytes, t + s + q + o) && solve_bytes(line, &bytes, n, hole, t, s, q, o)
+    if !read_words(&mut bytes, count) {
+        return false;
+    }
+    solve_bytes(&bytes, n, t, s, q) && show_bytes(&bytes, n, hole, t, s, q, o)
 }
 
 // A file, the first f of the bytes, is read into a table, whose words stand from word `first` on.
-fn read(line: &mut [u8], bytes: &[u8], f: usize, first: usize, table: &mut [u32]) -> bool
+fn read(bytes: &[u8], f: usize, first: usize, table: &mut [u32]) -> bool
     requires { ⌜ (f ≤ length (now bytes)) × (4 * (first + length (now table)) ≤ length (now bytes)) ⌝ }
 {
     fill(bytes, first, table);
     let reply = file::read(&bytes[..f], table);
-    print_reply(line, b"read", reply) && print_words(line, b"table", table)
+    print_said(b"read", reply) && print(b"table", table)
 }
 
 // A file of so many bytes, and a table of so many words after it, from their bytes.
-fn read_file(line: &mut [u8], bytes: &[u8; 96000], f: usize, first: usize, t: usize) -> bool
+fn read_file(bytes: &[u8; 96000], f: usize, first: usize, t: usize) -> bool
     requires { ⌜ (f ≤ 4 * first) × (first + t ≤ 24000) ⌝ }
 {
     let mut table = [0u32; 24000];
-    read(line, bytes, f, first, &mut table[..t])
+    read(bytes, f, first, &mut table[..t])
 }
 
 // A problem of the second kind.
-fn file_problem(line: &mut [u8]) -> bool {
+fn file_problem() -> bool {
     let mut head = [0u8; 8];
     if !read_words(&mut head, 2) {
         return false;
@@ -173,19 +166,13 @@ fn file_problem(line: &mut [u8]) -> bool {
     let f = word(&head, 0) as usize;
     let t = word(&head, 1) as usize;
     let first = (f + 3) / 4;
+    let count = first + t;
     let mut bytes = [0u8; 96000];
-    read_words(&mut bytes, first + t) && read_file(line, &bytes, f, first, t)
+    read_words(&mut bytes, count) && read_file(&bytes, f, first, t)
 }
 
 // The first n records of a table, whose words stand first, are written to a file of f bytes, which stand after them; the file is printed as words.
-fn write(
-    line: &mut [u8],
-    bytes: &mut [u8],
-    n: usize,
-    f: usize,
-    table: &mut [u32],
-    file: &mut [u32],
-) -> bool
+fn write(bytes: &mut [u8], n: usize, f: usize, table: &mut [u32], file: &mut [u32]) -> bool
     requires { ⌜ (f ≤ 4 * length (now file)) × (4 * (length (now table) + length (now file)) ≤ length (now bytes)) ⌝ }
 {
     let first = fill(bytes, 0, table);
@@ -193,27 +180,20 @@ fn write(
     let end = start + f;
     let reply = write::write(table, n, &mut bytes[start..end]);
     fill(bytes, first, file);
-    print_reply(line, b"write", reply) && print_words(line, b"file", file)
+    print_said(b"write", reply) && print(b"file", file)
 }
 
 // A table of t words and a file of f bytes after it, in so many words, from their bytes.
-fn write_bytes(
-    line: &mut [u8],
-    bytes: &mut [u8],
-    n: usize,
-    t: usize,
-    f: usize,
-    words: usize,
-) -> bool
-    requires { ⌜ (f ≤ 4 * words) × (t + words ≤ 24000) × (4 * (t + words) ≤ length (now bytes)) ⌝ }
+fn write_bytes(bytes: &mut [u8; 96000], n: usize, t: usize, f: usize, words: usize) -> bool
+    requires { ⌜ (f ≤ 4 * words) × (t + words ≤ 24000) ⌝ }
 {
     let mut table = [0u32; 24000];
     let mut file = [0u32; 24000];
-    write(line, bytes, n, f, &mut table[..t], &mut file[..words])
+    write(bytes, n, f, &mut table[..t], &mut file[..words])
 }
 
 // A problem of the third kind: n, how many words the table and how many bytes the file has, then these words and bytes.
-fn table_problem(line: &mut [u8]) -> bool {
+fn table_problem() -> bool {
     let mut head = [0u8; 12];
     if !read_words(&mut head, 3) {
         return false;
@@ -222,20 +202,21 @@ fn table_problem(line: &mut [u8]) -> bool {
     let t = word(&head, 1) as usize;
     let f = word(&head, 2) as usize;
     let words = (f + 3) / 4;
+    let count = t + words;
     let mut bytes = [0u8; 96000];
-    read_words(&mut bytes, t + words) && write_bytes(line, &mut bytes, n, t, f, words)
+    read_words(&mut bytes, count) && write_bytes(&mut bytes, n, t, f, words)
 }
 
 // One problem is replayed; false at the end of the input too.
-fn replay(line: &mut [u8]) -> bool {
+fn replay() -> bool {
     let mut kind = [0u8; 4];
     if !read_head(&mut kind) {
         return false;
     }
     match word(&kind, 0) {
-        1 => problem(line),
-        2 => file_problem(line),
-        3 => table_problem(line),
+        1 => problem(),
+        2 => file_problem(),
+        3 => table_problem(),
         _ => {
             stop(b"an unknown kind of problem");
             false
@@ -244,10 +225,9 @@ fn replay(line: &mut [u8]) -> bool {
 }
 
 fn main() {
-    let mut line = [0u8; 270000];
     let mut left = PROBLEMS;
     while 0 < left {
-        if !replay(&mut line) {
+        if !replay() {
             return;
         }
         left -= 1;

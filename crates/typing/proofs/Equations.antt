@@ -1,7 +1,7 @@
 -- The equations, one after another: what each adds, and what is ahead.
 use Prim.Native.Nat.{ℕ, _+_, _*_, _<_, _≤_, min}
 use mathlib.Core.Path.{_≡_, refl, sym, ap, _∙_}
-use mathlib.Core.List.{List, [], _∷_}
+use mathlib.Core.List.{List, [], _∷_, map}
 use mathlib.Core.Bool.{Bool, true, false, not}
 use native.Mathlib.Omega.{arith}
 use native.Mathlib.Numerals.{add-one}
@@ -23,10 +23,9 @@ use Rattle.laws.specs.Members.{none, every-at}
 use Rattle.laws.specs.Places.{TermAt, Sides, sides-at}
 use Rattle.heads.specs.Stack.{binders}
 use Rattle.typing.specs.declared.Judged.the-variants.{Fine, IllTyped, NoPattern}
-use Rattle.typing.specs.Offences.{sides, still}
-use Rattle.typing.specs.Asks.{TermAsks, EquationAsks, JudgeAsks, Told, Offends}
+use Rattle.terms.specs.Asks.{TermAsks, Told}
+use Rattle.typing.specs.Asks.{sides, EquationAsks, JudgeAsks, Offends}
 use Rattle.typing.specs.Judging.{judged, Judges}
-use Rattle.typing.proofs.Occurrences.{least-low}
 use Rattle.typing.proofs.Noted.{firstOf, first-on, first-stop, lowest-those, those-every}
 
 -- One equation
@@ -76,6 +75,15 @@ module _ (ws st : List ℕ) (low e : ℕ) (p : EquationAsks ws st low e) where
 -- equation e has a side that does not check
 abbrev fails : List ℕ → ℕ → Bool
 fails ws e = not (typed ws e)
+
+-- the lowest offending occurrence in the sides of these equations, or NONE
+unfoldable pub still : List ℕ → List ℕ → ℕ
+still ws es = least NONE (map (sides ws) es)
+
+least-low : (b : ℕ) (xs : List ℕ) → least b xs ≤ b
+unfolding least
+least-low b [] = omega arith
+least-low b (x ∷ xs) = let ih = least-low b xs in omega arith
 
 still-low : (ws es : List ℕ) → still ws es ≤ NONE
 unfolding still

@@ -1,5 +1,2 @@
-pub mod Occurrences  -- offending occurrences in a term and in a list
-pub mod Arguments  -- an argument list, turn by turn
-pub mod Terms  -- a term, turn by turn
 pub mod Noted  -- the equations in a list
 pub mod Equations  -- the equations, one after another

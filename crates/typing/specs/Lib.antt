@@ -1,3 +1,2 @@
-pub mod Offences  -- offences of one equation and of those still ahead
-pub mod Asks  -- what the functions ask and answer
+pub mod Asks  -- what the functions ask, and what is said of one equation
 pub mod Judging  -- answers 6 and 7 together

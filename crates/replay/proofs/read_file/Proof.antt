@@ -1,9 +1,7 @@
 -- `replay::read_file` meets its contract.
-use mathlib.Core.Path.{sym}
 use native.Mathlib.Omega.{arith}
 use borrow.Author.Needs.{needs}
-use lib.ListN.{length-take}
-use lib.Seq.{length-take-le}
+use Rattle.replay.proofs.Parts.{lent, one-fits}
 use Rattle.replay.proofs.read_file.Statement.{statement}
 use Rattle.replay.proofs.read_file.Tie as tie
 
@@ -12,7 +10,6 @@ read-file-spec =
     tie.close
     (tie.spec
     (λ c. search needs)
-    (λ c. sym (length-take-le _ _ (search needs)))
-    (λ c κs. simp length-take (omega arith, omega arith))
-    (λ c. search needs)
+    (λ c. lent 24000 _ (omega arith))
+    (λ c κs. (omega arith, search (one-fits 24000, arith)))
     (λ c. search needs))

@@ -1,9 +1,7 @@
 -- `replay::solve_bytes` meets its contract.
-use mathlib.Core.Path.{sym}
 use native.Mathlib.Omega.{arith}
 use borrow.Author.Needs.{needs}
-use lib.ListN.{length-take}
-use lib.Seq.{length-take-le}
+use Rattle.replay.proofs.Parts.{lent, three-fit}
 use Rattle.replay.proofs.solve_bytes.Statement.{statement}
 use Rattle.replay.proofs.solve_bytes.Tie as tie
 
@@ -12,13 +10,10 @@ solve-bytes-spec =
     tie.close
     (tie.spec
     (λ c. search needs)
-    (λ c. sym (length-take-le _ _ (search needs)))
+    (λ c. lent 24000 _ (omega arith))
     (λ c. search needs)
-    (λ c. sym (length-take-le _ _ (search needs)))
+    (λ c. lent 24000 _ (omega arith))
     (λ c. search needs)
-    (λ c. sym (length-take-le _ _ (search needs)))
-    (λ c. search needs)
-    (λ c. sym (length-take-le _ _ (search needs)))
-    (λ c κs. simp length-take (omega arith))
-    (λ c. search needs)
+    (λ c. lent 24000 _ (omega arith))
+    (λ c κs. let s = c .before .before .before .before in three-fit 24000 (s .args .t) (s .args .s) (s .args .q) _ (s .pre) (omega arith))
     (λ c. search needs))

@@ -1,9 +1,7 @@
 -- `replay::write_bytes` meets its contract.
-use mathlib.Core.Path.{sym}
 use native.Mathlib.Omega.{arith}
 use borrow.Author.Needs.{needs}
-use lib.ListN.{length-take}
-use lib.Seq.{length-take-le}
+use Rattle.replay.proofs.Parts.{lent, two-fit}
 use Rattle.replay.proofs.write_bytes.Statement.{statement}
 use Rattle.replay.proofs.write_bytes.Tie as tie
 
@@ -12,10 +10,8 @@ write-bytes-spec =
     tie.close
     (tie.spec
     (λ c. search needs)
-    (λ c. sym (length-take-le _ _ (search needs)))
+    (λ c. lent 24000 _ (omega arith))
     (λ c. search needs)
-    (λ c. sym (length-take-le _ _ (search needs)))
-    (λ c κs. simp length-take (omega arith, omega arith))
-    (λ c. search needs)
-    (λ c. search needs)
+    (λ c. lent 24000 _ (omega arith))
+    (λ c κs. let s = c .before .before .before in two-fit 24000 (s .args .t) (s .args .words) (s .args .f) _ (s .pre .0) (s .pre .1) (omega arith))
     (λ c. search needs))

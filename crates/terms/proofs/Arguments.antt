@@ -20,10 +20,9 @@ use Rattle.laws.specs.Places.{TypeAt, ListAt, placed-inside, domain-at, result-
 use Rattle.heads.specs.Stack.{binders}
 use Rattle.heads.specs.Heads.{named}
 use Rattle.heads.specs.HeadsLaws.{domains-arrow, asks-arrow, named-fills, other-fills, named-bare}
-use Rattle.typing.specs.declared.Checked.the-variants.{Fails, ButLast}
-use Rattle.typing.specs.Offences.{among-terms}
-use Rattle.typing.specs.Asks.{takes, filled, TermAsks, ArgsAsk, ListAsks, Told, Leaves}
-use Rattle.typing.proofs.Occurrences.{among-end, among-cell, bare-offence}
+use Rattle.terms.specs.declared.Checked.the-variants.{Fails, ButLast}
+use Rattle.terms.specs.Asks.{among-terms, takes, filled, TermAsks, ArgsAsk, ListAsks, Told, Leaves}
+use Rattle.terms.proofs.Occurrences.{among-end, among-cell, bare-offence}
 
 -- the first arguments have passed; so says of a list and of what it is held to whether it passes
 pub record Passed (Held : ℕ → Type 0) (so : ℕ → ℕ → Bool) (ws st₀ : List ℕ) (low₀ d l x : ℕ) (st : List ℕ) (low list rest : ℕ) : Type 0 where

@@ -14,17 +14,12 @@ use Rattle.laws.specs.Forms.{offence-lambda, offence-constant, offence-variable
 use Rattle.laws.specs.Unrolled.{offence-unrolled}
 use Rattle.laws.specs.Places.{TermAt, ListAt, term-cell}
 use Rattle.patterns.specs.Occurrences.{different, occurrence}
-use Rattle.typing.specs.Offences.{among-terms}
+use Rattle.terms.specs.Asks.{among-terms}
 
 least-min : (b : ℕ) (xs : List ℕ) → b ≤ NONE → least b xs ≡ min b (least NONE xs)
 unfolding least
 least-min b [] h = omega arith
 least-min b (x ∷ xs) h = let ih = least-min b xs h in omega arith
-
-pub least-low : (b : ℕ) (xs : List ℕ) → least b xs ≤ b
-unfolding least
-least-low b [] = omega arith
-least-low b (x ∷ xs) = let ih = least-low b xs in omega arith
 
 module _ (ws : List ℕ) (r : ℕ) (p : TermAt ws r) where
   unrolled : offence enough ws r ≡ offenceIn (λ x. offence enough ws x) ws r

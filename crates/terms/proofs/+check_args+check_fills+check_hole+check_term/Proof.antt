@@ -1,38 +1,38 @@
--- `typing::check_args`, `typing::check_fills`, `typing::check_hole` and `typing::check_term` meet their contracts.
+-- `terms::check_args`, `terms::check_fills`, `terms::check_hole` and `terms::check_term` meet their contracts.
 use borrow.Author.Needs.{needs}
 use native.Mathlib.Omega.{arith}
 use Prim.Native.Nat.{ℕ, _<_, _+_, _*_}
 use Rattle.laws.specs.Lists.{size}
-use Rattle.typing.proofs.Arguments.{passed-none, cell-inside, element-inside, stack-holds as list-stack-holds, rest-less, element-less, element-asks}
-use Rattle.typing.proofs.Arguments.{Counting, counting-first, head-inside as type-of-head-inside, list-inside, left-some, too-many, too-short, last-remains}
-use Rattle.typing.proofs.Arguments.{argument-asks, argument-less, cells-less, argument-fails, argument-checks}
-use Rattle.typing.proofs.Arguments.{Filling, context-ends, context-short, context-inside, context-type, bare-fills, filling-fails, filling-checks}
-use Rattle.typing.proofs.Terms.{InHand, hand-first, answered, term-inside, room-left, stack-holds, hole-less, tagged, body-less, no-arrow, body-next}
-use Rattle.typing.proofs.Terms.{hole-inside, hole-list, fills-less, other-type, hole-asks, hole-told}
-use Rattle.typing.proofs.Terms.{head-inside, head-free, Headed, headed, other-base, none-asked}
-use Rattle.typing.proofs.Terms.{Asking, stack-long, none-given, list-asks, arguments-less, list-fails, last-less, last-next}
+use Rattle.terms.proofs.Arguments.{passed-none, cell-inside, element-inside, stack-holds as list-stack-holds, rest-less, element-less, element-asks}
+use Rattle.terms.proofs.Arguments.{Counting, counting-first, head-inside as type-of-head-inside, list-inside, left-some, too-many, too-short, last-remains}
+use Rattle.terms.proofs.Arguments.{argument-asks, argument-less, cells-less, argument-fails, argument-checks}
+use Rattle.terms.proofs.Arguments.{Filling, context-ends, context-short, context-inside, context-type, bare-fills, filling-fails, filling-checks}
+use Rattle.terms.proofs.Terms.{InHand, hand-first, answered, term-inside, room-left, stack-holds, hole-less, tagged, body-less, no-arrow, body-next}
+use Rattle.terms.proofs.Terms.{hole-inside, hole-list, fills-less, other-type, hole-asks, hole-told}
+use Rattle.terms.proofs.Terms.{head-inside, head-free, Headed, headed, other-base, none-asked}
+use Rattle.terms.proofs.Terms.{Asking, stack-long, none-given, list-asks, arguments-less, list-fails, last-less, last-next}
 use borrow.Fn.Kinds.{In}
 use borrow.Fn.PlainCycle.{Measures, is, falls, and}
-use Rattle.typing.proofs.check_args.Reads as check-args
-use Rattle.typing.proofs.check_args.Kinds as check-args-kinds
-use Rattle.typing.proofs.+check_args+check_fills+check_hole+check_term.Lts-check_args as check-args-lts
-use Rattle.typing.proofs.check_fills.Reads as check-fills
-use Rattle.typing.proofs.check_fills.Kinds as check-fills-kinds
-use Rattle.typing.proofs.+check_args+check_fills+check_hole+check_term.Lts-check_fills as check-fills-lts
-use Rattle.typing.proofs.check_hole.Reads as check-hole
-use Rattle.typing.proofs.check_hole.Kinds as check-hole-kinds
-use Rattle.typing.proofs.+check_args+check_fills+check_hole+check_term.Lts-check_hole as check-hole-lts
-use Rattle.typing.proofs.check_term.Reads as check-term
-use Rattle.typing.proofs.check_term.Kinds as check-term-kinds
-use Rattle.typing.proofs.+check_args+check_fills+check_hole+check_term.Lts-check_term as check-term-lts
+use Rattle.terms.proofs.check_args.Reads as check-args
+use Rattle.terms.proofs.check_args.Kinds as check-args-kinds
+use Rattle.terms.proofs.+check_args+check_fills+check_hole+check_term.Lts-check_args as check-args-lts
+use Rattle.terms.proofs.check_fills.Reads as check-fills
+use Rattle.terms.proofs.check_fills.Kinds as check-fills-kinds
+use Rattle.terms.proofs.+check_args+check_fills+check_hole+check_term.Lts-check_fills as check-fills-lts
+use Rattle.terms.proofs.check_hole.Reads as check-hole
+use Rattle.terms.proofs.check_hole.Kinds as check-hole-kinds
+use Rattle.terms.proofs.+check_args+check_fills+check_hole+check_term.Lts-check_hole as check-hole-lts
+use Rattle.terms.proofs.check_term.Reads as check-term
+use Rattle.terms.proofs.check_term.Kinds as check-term-kinds
+use Rattle.terms.proofs.+check_args+check_fills+check_hole+check_term.Lts-check_term as check-term-lts
 use Rattle.patterns.proofs.offended.Reads as offended-reads
 use Rattle.table.proofs.read.Reads as read-reads
 use Rattle.heads.proofs.bind.Reads as bind-reads
 use Rattle.heads.proofs.final_type.Reads as final-type-reads
 use Rattle.heads.proofs.head_type.Reads as head-type-reads
 use Rattle.heads.proofs.names.Reads as names-reads
-use Rattle.typing.proofs.+check_args+check_fills+check_hole+check_term.{statement}
-use Rattle.typing.proofs.+check_args+check_fills+check_hole+check_term.Tie.{close}
+use Rattle.terms.proofs.+check_args+check_fills+check_hole+check_term.{statement}
+use Rattle.terms.proofs.+check_args+check_fills+check_hole+check_term.Tie.{close}
 
 abbrev μ-check-args : Measures 3 check-args-kinds.ps ℕ
 μ-check-args κs a = 2 * size (a .1 .1 .1 .1 .0)

@@ -28,12 +28,11 @@ use Rattle.heads.specs.Stack.{binders, typeOf}
 use Rattle.heads.specs.Heads.{headType, IsFinal, Bound, Binds}
 use Rattle.heads.specs.HeadsLaws.{binders-pop, head-variable, head-constant, type-found, type-missing}
 use Rattle.patterns.specs.Occurrences.{occurrence}
-use Rattle.typing.specs.declared.Checked.{Checked}
-use Rattle.typing.specs.declared.Checked.the-variants.{Fails, ButLast}
-use Rattle.typing.specs.Offences.{among-terms}
-use Rattle.typing.specs.Asks.{takes, filled, TermAsks, ArgsAsk, ListAsks, Told, Remains, Leaves}
-use Rattle.typing.proofs.Arguments.{takes-none, takes-more}
-use Rattle.typing.proofs.Occurrences.{among-end, lambda-offence, constant-offence, variable-offence, hole-offence}
+use Rattle.terms.specs.declared.Checked.{Checked}
+use Rattle.terms.specs.declared.Checked.the-variants.{Fails, ButLast}
+use Rattle.terms.specs.Asks.{among-terms, takes, filled, TermAsks, ArgsAsk, ListAsks, Told, Remains, Leaves}
+use Rattle.terms.proofs.Arguments.{takes-none, takes-more}
+use Rattle.terms.proofs.Occurrences.{among-end, lambda-offence, constant-offence, variable-offence, hole-offence}
 
 -- the term in hand: its check is the check asked, the first d₀ binders stay where the first d do, and the lowest offending occurrence of the
 -- whole is that of what is passed and of what is within

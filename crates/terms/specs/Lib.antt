@@ -1,0 +1,1 @@
+pub mod Asks  -- what the functions ask and answer
