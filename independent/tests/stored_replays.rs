@@ -5,8 +5,8 @@ use independent::generate::problem::{Kind, Problem};
 use independent::generate::writes::{WriteKind, WriteProblem};
 use independent::selfcheck::{check_problem, files::file_faults, writes::check_write};
 use independent::stored::replays::boundaries::NEEDS;
-use independent::stored::replays::{file_replays, problems, write_replays, Replay};
-use independent::{read, show, solve, write, Reply};
+use independent::stored::replays::{file_replays, problems, write_replays, Replay, WriteReplay};
+use independent::{check, read, show, solve, write, Reply};
 use std::collections::{BTreeMap, BTreeSet};
 
 fn solved(replay: &Replay) -> Reply {
@@ -136,13 +136,13 @@ const WRITTEN: [(&str, [u32; 3]); 36] = [
     ("every mark, into 197 bytes", [0, 0, 14]),
     ("every mark, into 199 bytes", [0, 0, 14]),
     ("every mark, into 225 bytes", [0, 0, 14]),
-    ("13 records of 14", [0, 0, 13]),
-    ("5 records of 14", [0, 0, 5]),
-    ("1 records of 14", [0, 0, 1]),
-    ("0 records of 14", [0, 0, 0]),
-    ("15 records of 14", [4, 0, 0]),
-    ("1073741824 records of 14", [4, 0, 0]),
-    ("4294967295 records of 14", [4, 0, 0]),
+    ("n is 13 and R is 14", [0, 0, 13]),
+    ("n is 5 and R is 14", [0, 0, 5]),
+    ("n is 1 and R is 14", [0, 0, 1]),
+    ("n is 0 and R is 14", [0, 0, 0]),
+    ("n is 15 and R is 14", [4, 0, 0]),
+    ("n is 1073741824 and R is 14", [4, 0, 0]),
+    ("n is 4294967295 and R is 14", [4, 0, 0]),
     ("14 records, a word of the last missing", [4, 0, 0]),
     ("no record of no words into no bytes", [0, 0, 0]),
     ("one record of no words into no bytes", [4, 0, 0]),
@@ -199,14 +199,29 @@ fn of_the_words_that_hold_a_file_the_bytes_past_it_stay() {
     assert!(past.iter().all(|&count| count >= 2), "{past:?}");
 }
 
+fn table_named(name: &str) -> WriteReplay {
+    write_replays().into_iter().find(|table| table.name == format!("writes: {name}")).unwrap()
+}
+
 #[test]
 fn ill_typed_tables_and_no_patterns_are_refused_by_solving_alone() {
     for (name, answer) in [("ill-typed", 6), ("no pattern", 7)] {
-        let list = write_replays();
-        let mut given = list.into_iter().find(|table| table.name == format!("writes: {name}")).unwrap();
+        let mut given = table_named(name);
         let n = given.n as usize;
         assert_eq!(solve(&mut given.table, n, &mut vec![0; n], &mut [0; 8]).answer, answer);
     }
+}
+
+#[test]
+fn every_tag_is_written_and_the_long_tables_have_their_records() {
+    let tags: BTreeSet<u32> =
+        table_named("every mark, into 196 bytes").table.iter().step_by(4).copied().collect();
+    assert_eq!(tags, (1..=10).collect());
+    for name in ["2,048 records of 2,049", "2,049 records", "2,049 records, the first broken, no bytes"] {
+        assert_eq!(table_named(name).table.len(), 4 * 2049, "{name}");
+    }
+    let legal = table_named("2,049 records").table;
+    assert_eq!(check(&legal, 2049).answer, 0);
 }
 
 #[test]

@@ -49,13 +49,13 @@ fn lengths() -> Vec<WriteReplay> {
     sizes.map(|bytes| entry(format!("every mark, into {bytes} bytes"), words.clone(), 14, bytes)).to_vec()
 }
 
-/// n below, at and above the records of the table, far above them, and 0.
+/// n below and above the records of the table, far above them, and 0.
 fn counts() -> Vec<WriteReplay> {
     let words = words_of(&written(WHOLE).records);
     let odd = [words.clone(), vec![1, 2, 3]].concat();
     let below = [(13, 182), (5, 73), (1, 14), (0, 5)];
     let above = [(15, 210), (1 << 30, 16), (NONE as usize, 16)];
-    let of = |(n, bytes): (usize, usize)| entry(format!("{n} records of 14"), odd.clone(), n, bytes);
+    let of = |(n, bytes): (usize, usize)| entry(format!("n is {n} and R is 14"), odd.clone(), n, bytes);
     let mut list: Vec<WriteReplay> = below.into_iter().chain(above).map(of).collect();
     list.push(entry("14 records, a word of the last missing", words[..55].to_vec(), 14, 196));
     list.push(entry("no record of no words into no bytes", Vec::new(), 0, 0));
