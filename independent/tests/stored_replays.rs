@@ -2,10 +2,11 @@
 
 use independent::generate::files::FileProblem;
 use independent::generate::problem::{Kind, Problem};
-use independent::selfcheck::{check_problem, files::file_faults};
+use independent::generate::writes::{WriteKind, WriteProblem};
+use independent::selfcheck::{check_problem, files::file_faults, writes::check_write};
 use independent::stored::replays::boundaries::NEEDS;
-use independent::stored::replays::{file_replays, problems, Replay};
-use independent::{read, show, solve, Reply};
+use independent::stored::replays::{file_replays, problems, write_replays, Replay, WriteReplay};
+use independent::{check, read, show, solve, write, Reply};
 use std::collections::{BTreeMap, BTreeSet};
 
 fn solved(replay: &Replay) -> Reply {
@@ -25,9 +26,10 @@ fn named(part: &str) -> Vec<Replay> {
 
 #[test]
 fn names_are_different_and_every_answer_is_met() {
-    let (problems, files) = (problems(), file_replays());
+    let (problems, files, tables) = (problems(), file_replays(), write_replays());
     let names = problems.iter().map(|p| &p.name).chain(files.iter().map(|f| &f.name));
-    assert_eq!(names.collect::<BTreeSet<_>>().len(), problems.len() + files.len());
+    let names: BTreeSet<_> = names.chain(tables.iter().map(|t| &t.name)).collect();
+    assert_eq!(names.len(), problems.len() + files.len() + tables.len());
     assert!(problems.len() >= 260 && files.len() >= 36, "{} and {}", problems.len(), files.len());
     let mut answers: BTreeMap<u32, u32> = BTreeMap::new();
     for replay in &problems {
@@ -126,6 +128,102 @@ fn files_are_answered_as_their_names_say() {
     assert!([0, 4, 12, 13].iter().all(|&answer| answers[answer] >= 7), "{answers:?}");
 }
 
+/// Name, then answer, place and used.
+const WRITTEN: [(&str, [u32; 3]); 36] = [
+    ("every mark, into 196 bytes", [0, 0, 14]),
+    ("every mark, into 195 bytes", [14, 0, 0]),
+    ("every mark, into 0 bytes", [14, 0, 0]),
+    ("every mark, into 197 bytes", [0, 0, 14]),
+    ("every mark, into 199 bytes", [0, 0, 14]),
+    ("every mark, into 225 bytes", [0, 0, 14]),
+    ("n is 13 and R is 14", [0, 0, 13]),
+    ("n is 5 and R is 14", [0, 0, 5]),
+    ("n is 1 and R is 14", [0, 0, 1]),
+    ("n is 0 and R is 14", [0, 0, 0]),
+    ("n is 15 and R is 14", [4, 0, 0]),
+    ("n is 1073741824 and R is 14", [4, 0, 0]),
+    ("n is 4294967295 and R is 14", [4, 0, 0]),
+    ("14 records, a word of the last missing", [4, 0, 0]),
+    ("no record of no words into no bytes", [0, 0, 0]),
+    ("one record of no words into no bytes", [4, 0, 0]),
+    ("an unused field", [5, 1, 0]),
+    ("equal types", [5, 2, 0]),
+    ("a variable number of 4,096", [5, 1, 0]),
+    ("a second use", [5, 3, 0]),
+    ("a mixed list", [5, 3, 0]),
+    ("a reference to itself", [5, 1, 0]),
+    ("a second use past the records", [0, 0, 3]),
+    ("tag 0", [5, 1, 0]),
+    ("tag 11", [5, 1, 0]),
+    ("tag 257", [5, 1, 0]),
+    ("two broken records, a byte too few", [5, 1, 0]),
+    ("n above the table, broken records, no bytes", [4, 0, 0]),
+    ("fields of four different bytes", [0, 0, 5]),
+    ("ill-typed", [0, 0, 11]),
+    ("no pattern", [0, 0, 22]),
+    ("solved, all records used", [0, 0, 34]),
+    ("solved, one record past those used", [5, 34, 0]),
+    ("2,048 records of 2,049", [0, 0, 2048]),
+    ("2,049 records", [4, 0, 0]),
+    ("2,049 records, the first broken, no bytes", [4, 0, 0]),
+];
+
+#[test]
+fn tables_are_written_or_refused_as_their_names_say() {
+    let list = write_replays();
+    assert_eq!(list.len(), WRITTEN.len());
+    for (table, (name, [answer, place, used])) in list.iter().zip(WRITTEN) {
+        assert_eq!(table.name, format!("writes: {name}"));
+        let (reply, words) = table.left(write);
+        assert_eq!(reply, Reply { answer, place, used }, "{name}");
+        assert_eq!(words == table.words, used == 0, "{name}");
+        assert!(table.table.len() + table.words.len() <= 24_000, "{name}");
+    }
+}
+
+#[test]
+fn of_the_words_that_hold_a_file_the_bytes_past_it_stay() {
+    let bytes = |words: &[u32]| -> Vec<u8> { words.iter().flat_map(|word| word.to_le_bytes()).collect() };
+    let mut past = [0; 4];
+    for table in write_replays() {
+        assert_eq!(table.words.len(), table.bytes.div_ceil(4), "{}", table.name);
+        let (reply, words) = table.left(write);
+        let (before, after) = (bytes(&table.words), bytes(&words));
+        let written = 14 * reply.used as usize;
+        assert_eq!(before[written..], after[written..], "{}", table.name);
+        let mut alone = before[..table.bytes].to_vec();
+        assert_eq!(write(&table.table, table.n as usize, &mut alone), reply, "{}", table.name);
+        assert_eq!(alone, after[..table.bytes], "{}", table.name);
+        past[before.len() - table.bytes] += usize::from(reply.answer == 0);
+    }
+    assert!(past.iter().all(|&count| count >= 2), "{past:?}");
+}
+
+fn table_named(name: &str) -> WriteReplay {
+    write_replays().into_iter().find(|table| table.name == format!("writes: {name}")).unwrap()
+}
+
+#[test]
+fn ill_typed_tables_and_no_patterns_are_refused_by_solving_alone() {
+    for (name, answer) in [("ill-typed", 6), ("no pattern", 7)] {
+        let mut given = table_named(name);
+        let n = given.n as usize;
+        assert_eq!(solve(&mut given.table, n, &mut vec![0; n], &mut [0; 8]).answer, answer);
+    }
+}
+
+#[test]
+fn every_tag_is_written_and_the_long_tables_have_their_records() {
+    let tags: BTreeSet<u32> =
+        table_named("every mark, into 196 bytes").table.iter().step_by(4).copied().collect();
+    assert_eq!(tags, (1..=10).collect());
+    for name in ["2,048 records of 2,049", "2,049 records", "2,049 records, the first broken, no bytes"] {
+        assert_eq!(table_named(name).table.len(), 4 * 2049, "{name}");
+    }
+    let legal = table_named("2,049 records").table;
+    assert_eq!(check(&legal, 2049).answer, 0);
+}
+
 #[test]
 fn the_self_check_finds_no_fault() {
     for r in problems() {
@@ -137,5 +235,11 @@ fn the_self_check_finds_no_fault() {
     for f in file_replays() {
         let problem = FileProblem { file: f.file, table: f.table };
         assert_eq!(file_faults(&problem).1, Vec::<String>::new(), "{}", f.name);
+    }
+    for t in write_replays() {
+        let mut file: Vec<u8> = t.words.iter().flat_map(|word| word.to_le_bytes()).collect();
+        file.truncate(t.bytes);
+        let problem = WriteProblem { kind: WriteKind::Problem, table: t.table, n: t.n as usize, file };
+        assert_eq!(check_write(&problem).faults, Vec::<String>::new(), "{}", t.name);
     }
 }

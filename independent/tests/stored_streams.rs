@@ -75,6 +75,12 @@ fn the_stream_of_replays_is_the_list() {
                 assert_eq!(stream.bytes(fill), vec![0; fill]);
                 assert_eq!(stream.words(start[2]), f.table, "{}", f.name);
             }
+            Stored::Table(t) => {
+                let start = stream.words(4);
+                assert_eq!((start[0], start[1], start[3] as usize), (3, t.n, t.bytes), "{}", t.name);
+                assert_eq!(stream.words(start[2]), t.table, "{}", t.name);
+                assert_eq!(stream.words(start[3].div_ceil(4)), t.words, "{}", t.name);
+            }
         }
     }
     assert!(stream.ended());
@@ -83,7 +89,7 @@ fn the_stream_of_replays_is_the_list() {
 #[test]
 fn the_lines_of_replays_have_their_names_in_order() {
     let out = String::from_utf8(Stream::of(write_replay_out).bytes).unwrap();
-    assert!(out.len() < 600_000, "{} bytes", out.len());
+    assert!(out.len() < 700_000, "{} bytes", out.len());
     let mut lines = out.lines();
     let of_problem =
         ["solve", "table", "solutions", "queue", "show", "table", "solutions", "queue", "output"];
@@ -91,6 +97,7 @@ fn the_lines_of_replays_have_their_names_in_order() {
         let names = match entry {
             Stored::Problem(_) => &of_problem[..],
             Stored::File(_) => &["read", "table"],
+            Stored::Table(_) => &["write", "file"],
         };
         for name in names {
             let line = lines.next().unwrap();

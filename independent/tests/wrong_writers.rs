@@ -1,14 +1,20 @@
-//! Writers with one small fault each: the self-check notices every one on generated tables.
+//! Writers with one small fault each: generated tables and stored ones notice every one.
 
 use independent::generate::writes::write_problem;
 use independent::generate::Scale;
 use independent::read::{MOST_BYTES, RECORD_BYTES};
 use independent::selfcheck::writes::{check_writer, Writer};
+use independent::stored::replays::write_replays;
 use independent::{write, Reply};
 
 /// The first of so many tables on which the self-check finds a fault.
 fn noticed(writer: Writer, count: u64) -> Option<u64> {
     (0..count).find(|&index| !check_writer(writer, &write_problem(41, index, Scale::Usual)).faults.is_empty())
+}
+
+/// Whether a stored table is answered or written otherwise than it should be.
+fn noticed_stored(writer: Writer) -> bool {
+    write_replays().iter().any(|table| table.left(writer) != table.left(write))
 }
 
 /// Writes as it should, then changes something if the answer is 0.
@@ -53,7 +59,7 @@ fn wrong_bytes_are_noticed() {
         ("nothing", |table, n, file| write(table, n, &mut file.to_vec())),
     ];
     for (name, writer) in writers {
-        assert!(noticed(writer, 200).is_some(), "{name}");
+        assert!(noticed(writer, 200).is_some() && noticed_stored(writer), "{name}");
     }
 }
 
@@ -88,6 +94,6 @@ fn wrong_replies_are_noticed() {
         }),
     ];
     for (name, writer) in writers {
-        assert!(noticed(writer, 600).is_some(), "{name}");
+        assert!(noticed(writer, 600).is_some() && noticed_stored(writer), "{name}");
     }
 }

@@ -6,7 +6,8 @@ use crate::machine::show::show;
 use crate::machine::solve::solve;
 use crate::read::read;
 use crate::stored::checks::checks;
-use crate::stored::replays::{replays, FileReplay, Replay, Stored};
+use crate::stored::replays::{replays, FileReplay, Replay, Stored, WriteReplay};
+use crate::write::write;
 use std::io::{self, Write};
 
 fn numbers(out: &mut dyn Write, words: &[u32]) -> io::Result<()> {
@@ -47,12 +48,17 @@ pub fn write_replay_in(out: &mut dyn Write) -> io::Result<()> {
                 out.write_all(&vec![0; f.file.len().next_multiple_of(4) - f.file.len()])?;
                 numbers(out, &f.table)?;
             }
+            Stored::Table(t) => {
+                numbers(out, &[3, t.n, t.table.len() as u32, t.bytes as u32])?;
+                numbers(out, &t.table)?;
+                numbers(out, &t.words)?;
+            }
         }
     }
     Ok(())
 }
 
-/// What solve and show, or read, leave of each problem of the replays.
+/// What solve and show, or read, or write, leave of each problem of the replays.
 pub fn write_replay_out(out: &mut dyn Write) -> io::Result<()> {
     for stored in replays() {
         match stored {
@@ -61,6 +67,7 @@ pub fn write_replay_out(out: &mut dyn Write) -> io::Result<()> {
                 shown_lines(out, problem)?;
             }
             Stored::File(file) => read_lines(out, file)?,
+            Stored::Table(table) => written_lines(out, &table)?,
         }
     }
     Ok(())
@@ -88,4 +95,10 @@ fn read_lines(out: &mut dyn Write, mut f: FileReplay) -> io::Result<()> {
     let reply = read(&f.file, &mut f.table);
     reply_line(out, "read", reply)?;
     line(out, "table", &f.table)
+}
+
+fn written_lines(out: &mut dyn Write, t: &WriteReplay) -> io::Result<()> {
+    let (reply, words) = t.left(write);
+    reply_line(out, "write", reply)?;
+    line(out, "file", &words)
 }

@@ -1,4 +1,4 @@
-//! The stored list of replays: whole calls of solve, show and read, with every word before them.
+//! The stored list of replays: whole calls of solve, show, read and write, with every word before them.
 
 pub mod boundaries;
 mod documents;
@@ -9,7 +9,9 @@ mod refusals;
 mod room;
 mod shows;
 mod steps;
+mod writes;
 
+use crate::reply::Reply;
 pub use room::Room;
 
 /// A call of solve and a call of show, both on these words.
@@ -32,11 +34,33 @@ pub struct FileReplay {
     pub table: Vec<u32>,
 }
 
+/// A call of write: the file is the first bytes of words that hold four each, the lowest first.
+#[derive(Clone, Debug)]
+pub struct WriteReplay {
+    pub name: String,
+    pub n: u32,
+    pub table: Vec<u32>,
+    /// How many bytes the file has; those after it in the last word are not lent.
+    pub bytes: usize,
+    pub words: Vec<u32>,
+}
+
+impl WriteReplay {
+    /// What a writer replies, and the words that it leaves.
+    pub fn left(&self, writer: impl Fn(&[u32], usize, &mut [u8]) -> Reply) -> (Reply, Vec<u32>) {
+        let mut bytes: Vec<u8> = self.words.iter().flat_map(|word| word.to_le_bytes()).collect();
+        let reply = writer(&self.table, self.n as usize, &mut bytes[..self.bytes]);
+        let word = |four: &[u8]| four.iter().rev().fold(0, |word, &byte| word << 8 | u32::from(byte));
+        (reply, bytes.chunks(4).map(word).collect())
+    }
+}
+
 /// One entry of the list.
 #[derive(Clone, Debug)]
 pub enum Stored {
     Problem(Replay),
     File(FileReplay),
+    Table(WriteReplay),
 }
 
 /// The problems of the list.
@@ -58,8 +82,14 @@ pub fn file_replays() -> Vec<FileReplay> {
     files::all()
 }
 
+/// The tables of the list that are written.
+pub fn write_replays() -> Vec<WriteReplay> {
+    writes::all()
+}
+
 /// The whole list, always the same.
 pub fn replays() -> Vec<Stored> {
     let problems = problems().into_iter().map(Stored::Problem);
-    problems.chain(file_replays().into_iter().map(Stored::File)).collect()
+    let files = file_replays().into_iter().map(Stored::File);
+    problems.chain(files).chain(write_replays().into_iter().map(Stored::Table)).collect()
 }
