@@ -104,16 +104,12 @@ module _ (ws ms : List ℕ) (r : ℕ) (a b c : Field) (p : RowAsks ws ms r a b c
         unfolding both
         row-c v = unkept ms₃ (row-parts ∙ rw (is-a, not-false i t, is-b, not-false j u, is-c, not-true k v))
 
-        pub row-end : not k ≡ false → length ms₃ ≡ length ms → RowSays ws (set ms₃ r (x .tag)) r true
+        pub row-answer : not k ≡ false → true ≡ both (shaped ws r) (first-use ws r)
         unfolding both
-        row-end v l =
-            let h = p .room in
-            let m = field-next ws ms₂ (B ++ (A ++ U)) r after-b (p .above .lower) few ms₃ c (x .c) k hk (not-false k v) in
-            record {
-              answer = sym (row-parts ∙ rw (is-a, not-false i t, is-b, not-false j u, is-c, not-false k v));
-              next = λ _. marked-own ws ms₃ _ r (marked-same ws ms₃ _ _ r together m) (x .tag);
-              own = λ _. getD-set-same ms₃ r (x .tag) 0 (omega arith) ∙ w .tag-is;
-            }
+        row-answer v = sym (row-parts ∙ rw (is-a, not-false i t, is-b, not-false j u, is-c, not-false k v))
+
+        pub row-next : not k ≡ false → Marked ws ms₃ (used ws (r + 1)) r
+        row-next v = marked-same ws ms₃ _ _ r together (field-next ws ms₂ (B ++ (A ++ U)) r after-b (p .above .lower) few ms₃ c (x .c) k hk (not-false k v))
           where
             order : (g h j k : Bool) → either j (either h (either g k)) ≡ either (either g (either h j)) k
             order true true true k = unfold either in refl
@@ -140,3 +136,12 @@ module _ (ws ms : List ℕ) (r : ℕ) (a b c : Field) (p : RowAsks ws ms r a b c
                   among-append B C v,
                 )
                 (order (among A v) (among B v) (among C v) (among U v))
+
+        pub row-end : not k ≡ false → length ms₃ ≡ length ms → RowSays ws (set ms₃ r (x .tag)) r true
+        row-end v l =
+            let h = p .room in
+            record {
+              answer = row-answer v;
+              next = λ _. marked-own ws ms₃ _ r (row-next v) (x .tag);
+              own = λ _. getD-set-same ms₃ r (x .tag) 0 (omega arith) ∙ w .tag-is;
+            }

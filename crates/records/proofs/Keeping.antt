@@ -1,6 +1,6 @@
 -- A record keeps the rules: its fields, and what else its kind asks.
 use Prim.Native.Nat.{ℕ, _+_, _<_, _≤_}
-use mathlib.Core.Path.{_≡_, sym, _∙_}
+use mathlib.Core.Path.{_≡_, refl, sym, _∙_}
 use mathlib.Core.Bool.{Bool, true, false}
 use mathlib.Core.List.{List}
 use mathlib.Core.Logic.{_⊎_, inl, inr}
@@ -134,30 +134,24 @@ module _ (ws ms la be : List ℕ) (r : ℕ) (p : RecordAsks ws ms la be r) where
           answer : y ≡ keeps ws r
           answer = q .answer ∙ sym (keeps-is ws r b (s .answer) ∙ (unfold both in rw (t, ← listed-other ws r no-cell)))
 
-      pub cell-asks : k ≡ CE → CellAsks ws ms₁ r
-      cell-asks c = let l = p .room .marks in record {
-        above = above;
-        cell = at-tag ∙ c;
-        so = row-shaped ws r ms₁ b s t;
-        room = omega arith;
-        known = s .next t;
-      }
+    pub cell-asks : k ≡ CE → CellAsks ws ms r
+    cell-asks c = let l = p .room .marks in record { above = above; cell = at-tag ∙ c; room = omega arith; known = p .passed .marks }
 
-      pub says-cell : k ≡ CE → (ms₂ : List ℕ) (y : Bool) → CellSays ws ms₂ r y → RecordSays ws ms₂ la be r y
-      says-cell c ms₂ y q = record {
-        answer = answer;
-        next = λ v. record {
-          lower = sound-next (sym answer ∙ v);
-          marks = q .next v;
-          chains = chains-other ws la be r no-type (p .passed .chains);
-        };
-      }
-        where
-          no-type : isType ws r ≡ false
-          no-type = cell-no-type ws r (at-tag ∙ c)
+    pub says-cell : k ≡ CE → (ms₁ : List ℕ) (y : Bool) → CellSays ws ms₁ r y → RecordSays ws ms₁ la be r y
+    says-cell c ms₁ y q = record {
+      answer = answer;
+      next = λ v. record {
+        lower = sound-next (sym answer ∙ v);
+        marks = q .next v;
+        chains = chains-other ws la be r no-type (p .passed .chains);
+      };
+    }
+      where
+        no-type : isType ws r ≡ false
+        no-type = cell-no-type ws r (at-tag ∙ c)
 
-          answer : y ≡ keeps ws r
-          answer = q .answer ∙ sym (keeps-is ws r b (s .answer) ∙ rw (t, new-other ws r no-type) (unfold both in both-alone (listed ws r)))
+        answer : y ≡ keeps ws r
+        answer = q .answer ∙ sym (keeps-is ws r (both (shaped ws r) (first-use ws r)) refl ∙ rw (new-other ws r no-type, both-alone (listed ws r)))
 
     pub says-row : within BT AR k ≡ false → eqb k CE ≡ false → (ms₁ : List ℕ) (y : Bool) → length ms₁ ≡ length ms → RowSays ws ms₁ r y → RecordSays ws ms₁ la be r y
     says-row t n ms₁ y lm s =

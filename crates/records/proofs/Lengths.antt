@@ -7,8 +7,6 @@ use mathlib.Core.Logic.{_⊎_, inl, inr}
 use native.Mathlib.Omega.{arith}
 use native.Mathlib.Decide.{ℕ-discrete}
 use borrow.Author.Tests.{ltb-true, eqb-true, eq-eqb, ne-eqb, lt-leb, le-leb}
-use mir.Syntax.{w8}
-use mir.Val.{Fits}
 use lib.ListN.{length, getD, set, length-set}
 use lib.Seq.{getD-set-same}
 use lib.Dec.{eqb, ltb, leb}
@@ -20,7 +18,8 @@ use Rattle.laws.specs.Lists.{cells-none, cells-more}
 use Rattle.table.specs.declared.Record.{Record}
 use Rattle.table.specs.Reading.{IsRecord}
 use Rattle.records.specs.Ranges.{TYPE-LOW, TYPE-HIGH, TERM-LOW, TERM-HIGH, MOST-CELLS, LIST-OF-TERMS, REFERRED}
-use Rattle.records.specs.Marks.{countedFrom, cellCount, kind, mark, Marked, used, CellAsks, CellSays}
+use Rattle.records.specs.Kinds.{Above}
+use Rattle.records.specs.Marks.{countedFrom, cellCount, kind, mark, Marked, used}
 use Rattle.records.proofs.Ranges.{within-true, kind-cell, kind-type, kind-term, other-kind, shaped-so, short, some}
 use Rattle.records.proofs.Uses.{type-counts, cell-counts, rest-used, mark-used, mark-unused, mark-least, marked-own, marked-next}
 
@@ -68,7 +67,7 @@ module _ (k : ℕ) (one : 1 ≤ k) (few : k ≤ MOST-CELLS) where
   mark-between false false a b = (le-leb (suc k) MOST-CELLS (omega arith), refl)
 
 -- the mark of a type is at most TYPE-HIGH, and that of a term is more
-type-mark : (ws u : List ℕ) (x : ℕ) → isTerm ws x ≡ not (isType ws x) → leb (mark ws u x) TYPE-HIGH ≡ isType ws x
+pub type-mark : (ws u : List ℕ) (x : ℕ) → isTerm ws x ≡ not (isType ws x) → leb (mark ws u x) TYPE-HIGH ≡ isType ws x
 type-mark ws u x e = go (isType ws x) refl
   where
     go : (t : Bool) → isType ws x ≡ t → leb (mark ws u x) TYPE-HIGH ≡ isType ws x
@@ -81,31 +80,38 @@ type-mark ws u x e = go (isType ws x) refl
         let k = within-true TERM-LOW TERM-HIGH (kind ws x) (kind-term ws x ∙ e ∙ ap not q) .0 in
         lt-leb (mark ws u x) TYPE-HIGH (omega arith) ∙ sym q
 
-from-high : (t : Bool) → countedFrom t ≤ LIST-OF-TERMS
+pub from-high : (t : Bool) → countedFrom t ≤ LIST-OF-TERMS
 unfolding countedFrom
 from-high true = omega arith
 from-high false = omega arith
 
 -- A cell
 
+-- record r is a cell with fields as the table says, and what it and the lower records refer to is marked
+pub record Filled (ws ms : List ℕ) (r : ℕ) : Type 0 where
+  pub above : Above ws r
+  pub cell : tag ws r ≡ CE
+  pub so : shaped ws r ≡ true
+  pub room : r < length ms
+  pub known : Marked ws ms (used ws (r + 1)) r
+
+-- whether its list is short and not mixed, and the marks up to it
+pub record Measured (ws ms : List ℕ) (r : ℕ) (b : Bool) : Type 0 where
+  pub answer : b ≡ listed ws r
+  pub next : b ≡ true → Marked ws ms (used ws (r + 1)) (r + 1)
+
 pub listed-other : (ws : List ℕ) (r : ℕ) → (tag ws r ≡ CE → ⊥) → true ≡ listed ws r
 unfolding listed has either
 listed-other ws r z = rw (ne-eqb _ _ z)
 
-module _ (ws ms : List ℕ) (r : ℕ) (p : CellAsks ws ms r) (x : Record) (w : IsRecord ws r x) where
+module _ (ws ms : List ℕ) (r : ℕ) (p : Filled ws ms r) (x : Record) (w : IsRecord ws r x) where
   cell-fits : (fits ws r element (fieldA ws r) ≡ true) × (fits ws r rest (fieldB ws r) ≡ true)
   unfolding shaped shape shapes
   cell-fits = let q = both-true _ _ (rw (p .cell) at (p .so)) in (q .0, both-true _ _ (q .1) .0)
 
-  element-low : fieldA ws r < r
+  pub element-low : fieldA ws r < r
   unfolding fits
   element-low = ltb-true _ _ (both-true _ _ (cell-fits .0) .0)
-
-  pub element-room : x .a < length ms
-  element-room = let l = element-low in let m = p .room in let e = w .a-is in omega arith
-
-  element-mark : leb (getD ms (x .a) 0) TYPE-HIGH ≡ isType ws (fieldA ws r)
-  element-mark = rw (w .a-is, p .known .marked (fieldA ws r) element-low) (type-mark ws (used ws (r + 1)) (fieldA ws r) (other-kind ws r (p .so) (p .cell)))
 
   real : r ≡ NONE → ⊥
   real q = let f = p .above .few in omega arith
@@ -115,20 +121,8 @@ module _ (ws ms : List ℕ) (r : ℕ) (p : CellAsks ws ms r) (x : Record) (w : I
       let m = marked-own ws ms (used ws (r + 1)) r (p .known) v in
       marked-next ws (set ms r v) (used ws (r + 1)) r m (simp length-set (p .room)) (getD-set-same ms r v 0 (p .room) ∙ e)
 
-  module _ (s : ℕ) (es : s ≡ countedFrom (leb (getD ms (x .a) 0) TYPE-HIGH)) where
-    start-is : s ≡ countedFrom (isType ws (fieldA ws r))
-    start-is = es ∙ ap countedFrom element-mark
-
-    start-low : s ≤ LIST-OF-TERMS
-    start-low = let h = from-high (isType ws (fieldA ws r)) in let e = start-is in omega arith
-
-    pub one-fits : Fits w8 (s + 1)
-    one-fits = let h = start-low in record { fits = omega arith }
-
-    pub most-fits : Fits w8 (s + MOST-CELLS)
-    most-fits = let h = start-low in record { fits = omega arith }
-
-    pub list-one : x .b ≡ NONE → CellSays ws (set ms r (s + 1)) r true
+  module _ (s : ℕ) (start-is : s ≡ countedFrom (isType ws (fieldA ws r))) where
+    pub list-one : x .b ≡ NONE → Measured ws (set ms r (s + 1)) r true
     unfolding listed alike has either both
     list-one z = record {
       answer = rw (p .cell, eq-eqb (fieldB ws r) NONE (sym (w .b-is) ∙ z), ← length-one);
@@ -142,16 +136,13 @@ module _ (ws ms : List ℕ) (r : ℕ) (p : CellAsks ws ms r) (x : Record) (w : I
       some-rest : fieldB ws r ≡ NONE → ⊥
       some-rest q = z (w .b-is ∙ q)
 
-      rest-low : (fieldB ws r < r) × (tag ws (fieldB ws r) ≡ CE)
+      pub rest-low : (fieldB ws r < r) × (tag ws (fieldB ws r) ≡ CE)
       unfolding fits has
       rest-low = go (either-true _ _ (cell-fits .1))
         where
           go : (eqb (fieldB ws r) NONE ≡ true) ⊎ (both (ltb (fieldB ws r) r) (eqb (tag ws (fieldB ws r)) CE) ≡ true) → (fieldB ws r < r) × (tag ws (fieldB ws r) ≡ CE)
           go (inl q) = absurd (some-rest (eqb-true _ _ q))
           go (inr q) = let y = both-true _ _ q in (ltb-true _ _ (y .0), eqb-true _ _ (y .1))
-
-      pub rest-room : x .b < length ms
-      rest-room = let l = rest-low .0 in let m = p .room in let e = w .b-is in omega arith
 
       -- how many cells the rest has
       abbrev count : ℕ
@@ -164,9 +155,6 @@ module _ (ws ms : List ℕ) (r : ℕ) (p : CellAsks ws ms r) (x : Record) (w : I
           let e : shape ws r .1 ≡ rest = rw (p .cell) in
           let m = mark-used ws (used ws (r + 1)) (fieldB ws r) (rw (cell-counts ws (fieldB ws r) (q .1), rest-used ws r e some-rest (q .1))) in
           rw (w .b-is) (p .known .marked (fieldB ws r) (q .0) ∙ m ∙ ap (λ k. k + REFERRED) (kind-cell ws (fieldB ws r) (q .1)))
-
-      pub rest-used-mark : REFERRED ≤ getD ms (x .b) 0
-      rest-used-mark = let e = rest-mark in omega arith
 
       length-more : suc count ≡ cellCount ws r
       length-more =
@@ -192,34 +180,26 @@ module _ (ws ms : List ℕ) (r : ℕ) (p : CellAsks ws ms r) (x : Record) (w : I
       few-cells : count ≤ MOST-CELLS
       few-cells = let q = rest-low in short ws r (p .above .lower) (fieldB ws r) (q .0) (q .1)
 
-      refused : joins (isType ws (fieldA ws r)) (isType ws (fieldA ws (fieldB ws r))) count ≡ false → CellSays ws ms r false
+      refused : joins (isType ws (fieldA ws r)) (isType ws (fieldA ws (fieldB ws r))) count ≡ false → Measured ws ms r false
       refused e = record { answer = sym (listed-is ∙ e); next = λ q. absurd (false-true q) }
 
-      pub list-low : getD ms (x .b) 0 - REFERRED ≤ s → CellSays ws ms r false
-      list-low h =
-          let e = start-is in
-          let m = rest-mark in
-          refused (mark-below count one-cell few-cells (isType ws (fieldA ws r)) (isType ws (fieldA ws (fieldB ws r))) (omega arith))
+      -- the mark of the rest before the cell referred to it
+      module _ (m : ℕ) (before : getD ms (x .b) 0 ≡ m + REFERRED) where
+        pub list-low : m ≤ s → Measured ws ms r false
+        list-low h =
+            let e = rest-mark in
+            refused (mark-below count one-cell few-cells (isType ws (fieldA ws r)) (isType ws (fieldA ws (fieldB ws r))) (omega arith))
 
-      pub list-long : s + MOST-CELLS ≤ getD ms (x .b) 0 - REFERRED → CellSays ws ms r false
-      list-long h =
-          let e = start-is in
-          let m = rest-mark in
-          refused (mark-above count one-cell few-cells (isType ws (fieldA ws r)) (isType ws (fieldA ws (fieldB ws r))) (omega arith))
+        pub list-long : s + MOST-CELLS ≤ m → Measured ws ms r false
+        list-long h =
+            let e = rest-mark in
+            refused (mark-above count one-cell few-cells (isType ws (fieldA ws r)) (isType ws (fieldA ws (fieldB ws r))) (omega arith))
 
-      pub more-fits : Fits w8 (getD ms (x .b) 0 - REFERRED + 1)
-      more-fits =
-          let h = from-high (isType ws (fieldA ws (fieldB ws r))) in
-          let m = rest-mark in
-          let f = few-cells in
-          record { fits = omega arith }
-
-      pub list-more : s < getD ms (x .b) 0 - REFERRED → getD ms (x .b) 0 - REFERRED < s + MOST-CELLS → CellSays ws (set ms r (getD ms (x .b) 0 - REFERRED + 1)) r true
-      list-more a b =
-          let e = start-is in
-          let m = rest-mark in
-          let q = mark-between count one-cell few-cells (isType ws (fieldA ws r)) (isType ws (fieldA ws (fieldB ws r))) (omega arith) (omega arith) in
-          let same = q .1 in
-          let l = length-more in
-          let k = kind-cell ws r (p .cell) in
-          record { answer = sym (listed-is ∙ q .0); next = λ _. marked-here _ (omega arith) }
+        pub list-more : s < m → m < s + MOST-CELLS → Measured ws (set ms r (m + 1)) r true
+        list-more a b =
+            let e = rest-mark in
+            let q = mark-between count one-cell few-cells (isType ws (fieldA ws r)) (isType ws (fieldA ws (fieldB ws r))) (omega arith) (omega arith) in
+            let same = q .1 in
+            let l = length-more in
+            let k = kind-cell ws r (p .cell) in
+            record { answer = sym (listed-is ∙ q .0); next = λ _. marked-here _ (omega arith) }

@@ -7,7 +7,7 @@ use lib.ListN.{length, getD, set}
 use lib.Dec.{eqb, ltb, leb}
 use Rattle.rules.specs.Lists.{both, either, among}
 use Rattle.rules.specs.Words.{NONE, CE, HA, tag, fieldA, has, isType, cells}
-use Rattle.rules.specs.Records.{shaped, listed, uses}
+use Rattle.rules.specs.Records.{shaped, listed, uses, first-use}
 use Rattle.records.specs.declared.Field.{Field}
 use Rattle.records.specs.declared.Field.the-variants.{Nil, Any, Small, OfType, OfBase, OfConstant, OfHole, OfTerm, Types, Terms, Element, Rest}
 use Rattle.records.specs.Kinds.{Above, refersTo}
@@ -130,15 +130,28 @@ pub record FieldSays (ms ms₁ : List ℕ) (r : ℕ) (f : Field) (x : ℕ) (b : 
 
 -- Lists
 
--- record r is a cell with fields as the table says, and what it and the lower records refer to is marked
+-- record r has a mark, and a list counted from s leaves room for its cells
+pub record LengthAsks (ms : List ℕ) (r s : ℕ) : Type 0 where
+  pub room : r < length ms
+  pub low : s ≤ LIST-OF-TERMS
+
+-- the mark of a cell whose rest is x, marked m: one more than the rest's, or the first from s on
+unfoldable pub lengthMark : ℕ → ℕ → ℕ → ℕ
+lengthMark s x m = elim (eqb x NONE) [ true ↦ s + 1 | false ↦ m + 1 ]
+
+-- the answer for a list counted from s: it is empty but for the cell, or the rest is counted from s too and has less than 16 cells
+pub record LengthSays (ms ms₁ : List ℕ) (r s x m : ℕ) (b : Bool) : Type 0 where
+  pub answer : b ≡ either (eqb x NONE) (both (ltb s m) (ltb m (s + MOST-CELLS)))
+  pub next : b ≡ true → ms₁ ≡ set ms r (lengthMark s x m)
+
+-- record r is a cell, and what the lower records refer to is marked
 pub record CellAsks (ws ms : List ℕ) (r : ℕ) : Type 0 where
   pub above : Above ws r
   pub cell : tag ws r ≡ CE
-  pub so : shaped ws r ≡ true
   pub room : r < length ms
-  pub known : Marked ws ms (used ws (r + 1)) r
+  pub known : Marked ws ms (used ws r) r
 
--- the answer for record r, and the marks up to it
+-- the answer for record r: its fields, and its list; and the marks up to it
 pub record CellSays (ws ms : List ℕ) (r : ℕ) (b : Bool) : Type 0 where
-  pub answer : b ≡ listed ws r
+  pub answer : b ≡ both (both (shaped ws r) (first-use ws r)) (listed ws r)
   pub next : b ≡ true → Marked ws ms (used ws (r + 1)) (r + 1)

@@ -20,7 +20,7 @@ ghost use Prim.Native.Nat.{_+_, _*_, _<_, _≤_};
 ghost use lib.ListN.{length};
 ghost use lib.Dec.{leb};
 ghost use Rattle.records.specs.Ranges.{TYPE-HIGH};
-ghost use Rattle.records.specs.Marks.{countedFrom, lowerMark, lies, ReferredAsks, ReferredSays, FirstCellSays, FieldSays, CellAsks, CellSays};
+ghost use Rattle.records.specs.Marks.{countedFrom, lowerMark, lies, ReferredAsks, ReferredSays, FirstCellSays, FieldSays, LengthAsks, LengthSays, CellAsks, CellSays};
 ghost use Rattle.records.specs.Chains.{equals, ChainAsks, ChainSays};
 ghost use Rattle.records.specs.Rows.{RowAsks, RowSays, RecordAsks, RecordSays, BrokenAsks};
 ghost use Rattle.records.specs.Noting.{NoteAsks, Noted, BrokenSays};
@@ -217,32 +217,49 @@ fn counted_from(element: u8) -> u8
     }
 }
 
-// Marks a cell by the length of the list that begins there if that is not mixed and has at most 16 cells; true if so.
-fn mark_cell(table: &[u32], marks: &mut [u8], r: u32) -> bool
-    requires { ⌜ CellAsks (now table) (now marks) r ⌝ }
-    ensures { λ b. ⌜ CellSays (now (table .entry)) (now (marks .exit)) r b ⌝ }
+// Marks a cell by the length of the list that begins there, which is one more than its rest has; true if that is not mixed and has at most 16 cells.
+// The mark of the rest is the one from before the cell referred to it.
+fn mark_length(marks: &mut [u8], r: u32, start: u8, rest: u32, mark: u8) -> bool
+    requires { ⌜ LengthAsks (now marks) r start ⌝ }
+    ensures { λ b. ⌜ LengthSays (now (marks .entry)) (now (marks .exit)) r start rest mark b ⌝ }
 {
-    let x = read(table, r);
     let at = r as usize;
-    let element = x.a as usize;
-    let start = counted_from(marks[element]);
-    if x.b == NONE {
+    if rest == NONE {
         marks[at] = start + 1;
         return true;
     }
-    let rest = x.b as usize;
-    let count = marks[rest] - REFERRED;
-    if count <= start {
+    if mark <= start {
         return false;
     }
-    if count < start + MOST_CELLS {
-        marks[at] = count + 1;
+    if mark < start + MOST_CELLS {
+        marks[at] = mark + 1;
         return true;
     }
     false
 }
 
-// Marks a record and what it refers to; true if it keeps the rules. The arms are the records section's table, and an unknown tag has no row.
+// Marks what a cell refers to, and the cell by its length; true if its fields are as the table says, and its list is as it must be.
+fn mark_cell(table: &[u32], marks: &mut [u8], r: u32) -> bool
+    requires { ⌜ CellAsks (now table) (now marks) r ⌝ }
+    ensures { λ b. ⌜ CellSays (now (table .entry)) (now (marks .exit)) r b ⌝ }
+{
+    let x = read(table, r);
+    let start = counted_from(lower_mark(marks, r, x.a));
+    if !mark_field(marks, r, Field::Element, x.a) {
+        return false;
+    }
+    let rest = lower_mark(marks, r, x.b);
+    if !mark_field(marks, r, Field::Rest, x.b) {
+        return false;
+    }
+    if !mark_field(marks, r, Field::Nil, x.c) {
+        return false;
+    }
+    mark_length(marks, r, start, x.b, rest)
+}
+
+// Marks a record and what it refers to; true if it keeps the rules. The arms are the records section's table; the row of a cell stands in
+// mark_cell, and an unknown tag has no row.
 fn mark_record(
     table: &[u32],
     marks: &mut [u8],
@@ -262,8 +279,7 @@ fn mark_record(
             && join_chain(table, last, before, r),
         KO => mark_row(table, marks, r, Field::OfType, Field::Nil, Field::Nil),
         HO => mark_row(table, marks, r, Field::Types, Field::OfBase, Field::Nil),
-        CE => mark_row(table, marks, r, Field::Element, Field::Rest, Field::Nil)
-            && mark_cell(table, marks, r),
+        CE => mark_cell(table, marks, r),
         LA => mark_row(table, marks, r, Field::OfTerm, Field::Nil, Field::Nil),
         CA => mark_row(table, marks, r, Field::OfConstant, Field::Terms, Field::Nil),
         VA => mark_row(table, marks, r, Field::Small, Field::Terms, Field::Nil),
