@@ -94,7 +94,8 @@ uint64_t tanczotka_read(const uint8_t *file, size_t file_len, uint32_t *table, s
 
 /* Writes the first n records of the table as a problem file of 14 * n bytes, of at most 2,048 records. They must keep the
  * rules of records; they need not be typed or patterns, and later records do not matter. Used: n. Reading the file gives
- * the same n records, and writing the records that were read gives the same bytes.
+ * the same n records, and writing the records that were read gives the same bytes. After tanczotka_solve has answered 0,
+ * the first `used` records keep the rules, so they can be written, up to 2,048 of them.
  *
  * Left behind: answers 4, 5 and 14, in this order, write nothing. Answer 0: the first 14 * n bytes are the file, the
  * bytes past them stay. The table is only read. */
