@@ -1,5 +1,7 @@
 // Runs the checks on stored problems: from standard input, each as n, the number of words and the words, all u32 little-endian; a line
 // `answer place` for each, 0 0 where it is admitted.
+#![tactic(auto)]
+
 ghost use Rattle.std.specs.Prelude.{◌*◌, ◌≤◌, length};
 
 use checks::check;

@@ -1,4 +1,6 @@
 // Reading a file of records of 14 bytes into a table: the two-byte mark, then a, b, c little-endian.
+#![tactic(auto)]
+
 ghost use Rattle.std.specs.Prelude.{◌≡◌, not, ◌++◌, ◌+◌, ◌*◌, ◌<◌, ◌≤◌, length, drop};
 ghost use Rattle.rules.specs.Lists.{lowest};
 ghost use Rattle.rules.specs.Answers.{reply as replyOf, unreading as unreadingOf};

@@ -1,5 +1,7 @@
 // The machine on an admitted input: the table is cleared, all equations enter the queue, pairs are taken until none waits; the reply, and what
 // is left behind.
+#![tactic(auto)]
+
 ghost use Rattle.std.specs.Prelude.{◌≡◌, ◌∷◌};
 ghost use Rattle.rules.specs.Answers.{number, pairs};
 ghost use Rattle.rules.specs.Machine.{machine as machine_of};
@@ -18,7 +20,7 @@ use step::{Step, take_step};
 use store::{clear, fill, first_unused};
 
 // What the run comes to: the records used, or the failure.
-#[derive(Drop)]
+#[derive(Clone, Copy)]
 pub enum Ran {
     Solved(u32),
     Failed(Failure),

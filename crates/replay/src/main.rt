@@ -1,5 +1,7 @@
 // Replays stored problems: each is read from standard input, as `independent replay-in` writes it, and the replies and every word that
 // solve, show, read and write leave are printed.
+#![tactic(auto)]
+
 ghost use Rattle.std.specs.Prelude.{◌+◌, ◌*◌, ◌≤◌, length, ◌≡◌};
 
 use rules::Reply;

@@ -1,4 +1,6 @@
 // Stored problems as programs read them, and lines of numbers as they print them; why a program stops is said in a line of its own.
+#![tactic(auto)]
+
 ghost use Rattle.std.specs.Prelude.{◌+◌, ◌*◌, ◌<◌, ◌≤◌, leb, length, true, ◌∷◌, ◌≡◌};
 ghost use Rattle.rules.specs.File.{word as word_of};
 ghost use Rattle.rules.specs.Text.{decimal, reply_line};

@@ -1,4 +1,6 @@
 // The program: a problem file on standard input is read whole, then its lines are written; what it answers is the exit status.
+#![tactic(auto)]
+
 ghost use Rattle.std.specs.Prelude.{◌≤◌, length};
 ghost use Rattle.tanczotka.specs.Moving.{Within, half};
 ghost use Rattle.tanczotka.specs.Gathering.{Gathers};
@@ -17,7 +19,7 @@ const NOT_WRITTEN: i32 = 4;
 const CALLS: u32 = 1000000;
 
 // What reading or writing came to: so many bytes, or it failed.
-#[derive(Drop)]
+#[derive(Clone, Copy)]
 enum Moved {
     Bytes(usize),
     Failed,

@@ -1,4 +1,6 @@
 // Writing the first n records of a table to a file of records of 14 bytes: the two-byte mark, then a, b, c little-endian.
+#![tactic(auto)]
+
 ghost use Rattle.std.specs.Prelude.{◌≡◌, ◌++◌, ◌+◌, ◌*◌, ◌<◌, ◌≤◌, length, drop};
 ghost use Rattle.std.proofs.lemmas.List.Edits.{sets};
 ghost use Rattle.rules.specs.Answers.{reply as replyOf, unwriting as unwritingOf};
