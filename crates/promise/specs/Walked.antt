@@ -8,7 +8,6 @@ use Rattle.rules.specs.Words.{CE}
 use Rattle.rules.specs.Store.{Store}
 use Rattle.rules.specs.Map.{Map}
 use Rattle.rules.specs.Rewrite.{Writer, write_all}
-use Rattle.rules.specs.Walk.{walk}
 use Rattle.trees.specs.Tree.{Tree, lam, con, var, hol, nil, cons, Holes, Sig}
 use Rattle.trees.specs.Moves.{Grows, Solutions, NoneFrozen, Walk, w_nil, w_cons, Lost, l_first, l_rest}
 use Rattle.trees.specs.Typing.{Declared}
