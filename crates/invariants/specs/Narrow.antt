@@ -4,7 +4,7 @@ use Rattle.std.proofs.Common.{sym, ◌∙◌, arith, le_refl, get_or-set_same}
 use Rattle.std.proofs.Math.Decide.{dec_lt, ℕ_discrete}
 use Rattle.std.proofs.Math.ListN.{get_or, length-set}
 use Rattle.std.proofs.Math.Seq.{get_or-set_other}
-use Rattle.rules.specs.Words.{NONE, tag, field_a, field_b, elements, hole, HO, CE, HA}
+use Rattle.rules.specs.Words.{NONE, tag, field_a, field_b, elements, HO, CE, HA}
 use Rattle.rules.specs.Store.{Store, Out, goes, fails, spent, push, push_cells, push_occurrence, settle}
 use Rattle.rules.specs.Walk.{narrow}
 use Rattle.laws.specs.Lists.{Cell, Listed, listed_rest, elements_none, elements_cell}

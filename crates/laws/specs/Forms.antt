@@ -3,7 +3,7 @@ use Rattle.std.specs.Prelude.{ℕ, ◌≤◌, ◌≡◌, List, ◌∷◌, map, t
 use Rattle.std.proofs.Common.{arith, leb-true}
 use Rattle.std.proofs.Math.Decide.{ℕ_discrete}
 use Rattle.rules.specs.Lists.{both, each, least}
-use Rattle.rules.specs.Words.{NONE, AR, LA, CA, VA, HA, tag, field_a, field_b, has, is_term, lambda, constant, variable, hole, form, arguments, elements}
+use Rattle.rules.specs.Words.{NONE, AR, LA, CA, VA, HA, tag, field_a, field_b, has, is_term, form, arguments, elements}
 use Rattle.rules.specs.Typing.{Check, applied, fills, check_term}
 use Rattle.rules.specs.Pattern.{pattern, offence_in}
 use Rattle.laws.specs.Tests.{both_true}

@@ -1,5 +1,5 @@
 -- Where the machine starts on an admitted table, the store is sane and the sides of the equations are in scope; so it is sane where the machine goes on.
-use Rattle.std.specs.Prelude.{ℕ, ◌-◌, ◌<◌, ◌≡◌, refl}
+use Rattle.std.specs.Prelude.{ℕ, ◌<◌, ◌≡◌, refl}
 use mathlib.Core.List.{List, [], ◌∷◌, map}
 use Rattle.std.proofs.Math.Bool.{true}
 use Rattle.std.proofs.Common.{arith, le_refl}

@@ -11,7 +11,7 @@ use Rattle.rules.specs.Lists.{enough}
 use Rattle.rules.specs.Words.{field_a, variables}
 use Rattle.rules.specs.Store.{Store, Out, goes, ◌>>=◌, settle}
 use Rattle.rules.specs.Map.{to_positions}
-use Rattle.rules.specs.Walk.{walk, assign}
+use Rattle.rules.specs.Walk.{assign}
 use Rattle.rules.specs.Machine.{Pair, done, agreeing, same_hole, upcoming}
 use Rattle.trees.specs.Tree.{Ty, Tree, hol, inst, AllL, Sig, Pairs}
 use Rattle.trees.specs.Moves.{Solutions, Good, Adds, Inverts, fails-walk, NoneFrozen, move_drop, move_swap}

@@ -70,6 +70,8 @@ module _ (ws : List ℕ) (n : ℕ) (g : Sound ws n) (small : n ≤ 4096) (S : �
       let w = c z a A p.0 t (type_later same_refl (lower l) q) in
       let v = args_check P ok off tree G c f k B b zs (omega (arith, type_below r)) (type_later same_refl (lower l) r) u p.1 in
       (rw (domains_arrow ws head f e, x, y) (both_yes _ _ w.0 v.0), (w.1, v.1), rw (final_arrow ws head f e, y) v.2)
+  args_check P ok off tree G c (suc f) head (base k) b (z ∷ zs) h d t p = elim t [ ]
+  args_check P ok off tree G c (suc f) head (arr A B) b [] h d t p = elim t [ ]
 
   abbrev Term : ℕ → ℕ → Type 0
   Term r x = (x < r) × (is_term ws x ≡ true)
@@ -86,6 +88,7 @@ module _ (ws : List ℕ) (n : ℕ) (g : Sound ws n) (small : n ≤ 4096) (S : �
         let z = ih (field_a ws ty ∷ ctx) (field_a ws r) (field_b ws ty) (A ∷ G) B (lambda_field ws n g r h e) (ty_cons (rw x (type_later same_refl (lower l) u)) k)
         (rw y (type_later same_refl (lower l) v)) d in
         (rw (form_lam ws r e, check_term) (both_yes _ _ (has_yes ws ty AR t) z.0), rw (form_lam ws r e, offence_in) z.1)
+    lam_check e (ty_base _ _ _) t = elim t [ ]
 
     -- a head of type `head`
     applied_check : (head : ℕ) (H : Ty) (b : ℕ) (xs : List ℕ) → ReadsTy ws n head H → ReadsTy ws n ty (base b) → arguments ws r ≡ xs → AllL (Term r) xs

@@ -25,6 +25,10 @@ module _ (R : ℕ) where
   each_copied write c m d f s nil r_nil p = each_nil
   each_copied write c m d f s (cons t a) (r_cons {x = x} q r) p =
       each_cons (λ s₁ g. c m d x s₁ f t g.grew.fits (reads_later g.grew.same g.grew.grown q) p.0) (each_copied write c m d f s a r p.1)
+  each_copied write c m d f s (lam _) q p = elim q [ ]
+  each_copied write c m d f s (con _ _) q p = elim q [ ]
+  each_copied write c m d f s (var _ _) q p = elim q [ ]
+  each_copied write c m d f s (hol _ _) q p = elim q [ ]
 
   pub copy_ends : (n : ℕ) → Copies (copy n R)
   unfolding copy write_term keep_hole
@@ -39,6 +43,8 @@ module _ (R : ℕ) where
       (var_written R (f v) (all-written R _ m d xs s i (each_copied _ (copy_ends n) m d f s a (reads_later same_refl (lower h) q) p.1)))
   copy_ends (suc n) m d r s f (hol g vs) i (r_hol h e x y l q) p =
       rw (form_hol s.words r e, write_term, x, listed-variables r y l q, follow_total m d f 0 vs p) (occurrence_ends R g (map f vs) s i)
+  copy_ends (suc n) m d r s f nil i q p = elim q [ ]
+  copy_ends (suc n) m d r s f (cons _ _) i q p = elim q [ ]
 
 -- step 1's copy: the solution's context variables are renamed to the arguments
 pub copy-solution : (R : ℕ) (xs : List ℕ) (r : ℕ) (s : Store) (t : Tree) → Fits R s → Reads s.words s.used (one r) t → Scoped (length xs) t

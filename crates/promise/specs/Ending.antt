@@ -8,7 +8,7 @@ use Rattle.std.proofs.Math.ListN.{length}
 use Rattle.std.proofs.Math.Dec.{leb}
 use Rattle.rules.specs.Answers.{records}
 use Rattle.rules.specs.Store.{Store, fail, ◌>>=◌}
-use Rattle.rules.specs.Machine.{Pair, join, run, steps, equations, machine}
+use Rattle.rules.specs.Machine.{Pair, join, steps, equations, machine}
 use Rattle.rules.specs.Solve.{start}
 use Rattle.trees.specs.Tree.{Tree, Holes, Pairs, PairsTyped}
 use Rattle.trees.specs.Moves.{nothing, Good, Run, NoneFrozen}

@@ -69,6 +69,8 @@ module _ (S : ℕ → Option Ty) (R : ℕ) (D : Sig) (σ : Solutions) where
       rw (not_hole s.words r CA (solved s (field_a s.words r)) e refl, expand) (stays (con c a) b ps r s i (r_con h e x y l q) tt)
   expand_ends (suc f) (var v a) b ps r s i g (r_var h e x y l q) =
       rw (not_hole s.words r VA (solved s (field_a s.words r)) e refl, expand) (stays (var v a) b ps r s i (r_var h e x y l q) tt)
+  expand_ends (suc f) nil b ps r s i g q = elim q [ ]
+  expand_ends (suc f) (cons _ _) b ps r s i g q = elim q [ ]
   expand_ends (suc f) (hol v xs) b ps r s i g (r_hol h e x y l q) = go (solved s v) refl (λ t' r' s'. expand_ends f t' b ps r' s')
     where
       test : (z : Bool) → solved s v ≡ z → both (has s.words r HA) (solved s (field_a s.words r)) ≡ z

@@ -9,7 +9,7 @@ use Rattle.std.proofs.Math.Decide.{ℕ_discrete}
 use Rattle.rules.specs.Lists.{each}
 use Rattle.rules.specs.Words.{tag, field_a, field_b, BT, AR, LA, CA, VA, HA, has, is_term}
 use Rattle.rules.specs.Typing.{final_type, domains}
-use Rattle.trees.specs.Tree.{Ty, base, arr, at, At}
+use Rattle.trees.specs.Tree.{Ty, base, arr, At}
 use Rattle.promise.specs.Reading.{ReadsTy, ty_base, ty_arr, ReadsTys, ty_nil, ty_cons}
 use Rattle.laws.specs.Tests.{false_true, both_true}
 

@@ -1,5 +1,5 @@
 -- What is known of the waiting pairs along the run: they read as typed pairs of trees, in a store that says the holes and their solutions.
-use Rattle.std.specs.Prelude.{ℕ, ◌≤◌, ◌≡◌, List, ◌∷◌}
+use Rattle.std.specs.Prelude.{ℕ, ◌≤◌, ◌≡◌, List, [], ◌∷◌}
 use Rattle.std.proofs.Math.Path.{sym, ap}
 use Rattle.std.proofs.Common.{◌∙◌, arith}
 use Rattle.std.proofs.Math.Option.{Option}
@@ -71,6 +71,7 @@ in_hand {R} {s} {l} {r} {q} k = go k.pairs k.good k.reads
     go : (ps : Pairs) → Good k.constants k.sig k.sols ps → PairsRead s.words s.used ((l, r) ∷ q) ps → Hand R s l r q
     go (c ∷ ps) g (p_cons x y w) =
         record { constants = k.constants; sig = k.sig; sols = k.sols; holds = k.holds; left = c.0; right = c.1; pairs = ps; good = g; reads_left = x; reads_right = y; reads = w }
+    go [] g x = elim x [ ]
 
 module _ {R : ℕ} {s : Store} {l r : ℕ} {q : List Pair} (k : Known R s ((l, r) ∷ q)) where
   pub known-left : SideKnown R s l

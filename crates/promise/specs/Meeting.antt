@@ -14,7 +14,7 @@ use Rattle.rules.specs.Words.{tag, field_a, LA, CA, VA, HA, has, arguments, vari
 use Rattle.rules.specs.Store.{Store, Out, goes, fail, ◌>>=◌}
 use Rattle.rules.specs.Walk.{assign}
 use Rattle.rules.specs.Machine.{Pair, Next, on, done, zip, join, same_hole, solve_one, same_head, meet, upcoming}
-use Rattle.trees.specs.Tree.{Ty, base, arr, Tree, lam, con, var, hol, Sig, Kind, at, args, At, HasTy, t_lam, t_con, t_var, t_hol, Pairs}
+use Rattle.trees.specs.Tree.{Ty, base, arr, Tree, lam, con, var, hol, nil, cons, Sig, Kind, at, args, At, HasTy, t_lam, t_con, t_var, t_hol, Pairs}
 use Rattle.trees.specs.Moves.{Stands, Solutions, Good, NoneFrozen, head, h_lam, h_con, h_var, fails_clash, move_lam, move_con, move_var}
 use Rattle.promise.specs.Reading.{one, many, Reads, r_lam, r_con, r_var, r_hol, same_refl, lower, reads_later, listed-arguments, listed-variables}
 use Rattle.promise.specs.Outcomes.{failed, fail_ends}
@@ -231,3 +231,13 @@ module _ (S : ℕ → Option Ty) (R C : ℕ) where
         (assign_ends S R D σ ps c xs (var d b) l r s i g x (listed-variables l u v p) (r_var k f y u' v' o) m tt))
     meet_ends (hol c xs) (hol d ys) g (r_hol h e x u v p) (r_hol k f y u' v' o) m n =
         hol_meet c d xs ys g e f x y (listed-variables l u v p) (listed-variables r u' v' o) m n (r_hol k f y u' v' o)
+    meet_ends (lam _) nil g p o m n = elim o [ ]
+    meet_ends (lam _) (cons _ _) g p o m n = elim o [ ]
+    meet_ends (con _ _) nil g p o m n = elim o [ ]
+    meet_ends (con _ _) (cons _ _) g p o m n = elim o [ ]
+    meet_ends (var _ _) nil g p o m n = elim o [ ]
+    meet_ends (var _ _) (cons _ _) g p o m n = elim o [ ]
+    meet_ends (hol _ _) nil g p o m n = elim o [ ]
+    meet_ends (hol _ _) (cons _ _) g p o m n = elim o [ ]
+    meet_ends nil b g p o m n = elim p [ ]
+    meet_ends (cons _ _) b g p o m n = elim p [ ]

@@ -21,18 +21,18 @@ abbrev Prints : ℕ → List ℕ → Node → Tree → Type 0
 Prints f ws (one r) t = printed f ws r ≡ notation t
 Prints f ws (many xs) a = map (λ x. printed f ws x) xs ≡ notations a
 
-node_printed : (f : ℕ) {ws : List ℕ} {n : ℕ} {x : Node} {t : Tree} → n ≤ f → Reads ws n x t → Prints f ws x t
+node_printed : {ws : List ℕ} (f : ℕ) {n : ℕ} {x : Node} {t : Tree} → n ≤ f → Reads ws n x t → Prints f ws x t
 unfolding printed print_term notation
 node_printed zero h (r_lam l e x d) = absurd (omega arith)
-node_printed (suc f) {ws} h (r_lam {r = r} l e x d) = rw (form_lam ws r e, print_term, x) (ap (92 ∷◌) (node_printed f (omega arith) d))
+node_printed {ws} (suc f) h (r_lam {r = r} l e x d) = rw (form_lam ws r e, print_term, x) (ap (92 ∷◌) (node_printed f (omega arith) d))
 node_printed zero h (r_con l e x y g d) = absurd (omega arith)
-node_printed (suc f) {ws} h (r_con {r = r} {c = c} l e x y g d) =
+node_printed {ws} (suc f) h (r_con {r = r} {c = c} l e x y g d) =
     rw (form_con ws r e, print_term, x, listed-arguments r y g) (ap (λ z. 99 ∷ (decimal c ++ brackets z)) (node_printed f (omega arith) d))
 node_printed zero h (r_var l e x y g d) = absurd (omega arith)
-node_printed (suc f) {ws} h (r_var {r = r} {v = v} l e x y g d) =
+node_printed {ws} (suc f) h (r_var {r = r} {v = v} l e x y g d) =
     rw (form_var ws r e, print_term, x, listed-arguments r y g) (ap (λ z. 118 ∷ (decimal v ++ brackets z)) (node_printed f (omega arith) d))
 node_printed zero h (r_hol l e x y g d) = absurd (omega arith)
-node_printed (suc f) {ws} h (r_hol {r = r} {h = v} l e x y g d) =
+node_printed {ws} (suc f) h (r_hol {r = r} {h = v} l e x y g d) =
     rw (form_hol ws r e, print_term, x, listed-arguments r y g) (ap (λ z. 104 ∷ (decimal v ++ brackets z)) (bares_printed f (omega arith) d))
 node_printed f h r_nil = refl
 node_printed f h (r_cons d e) = ap₂ ◌∷◌ (node_printed f h d) (node_printed f h e)

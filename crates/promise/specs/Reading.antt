@@ -136,10 +136,10 @@ hole_later s k d =
     }
 
 -- the elements of a list, as the rules read them
-listed-cells : (k : ℕ) {ws : List ℕ} {n l : ℕ} {xs : List ℕ} → n ≤ k → Listed ws n l xs → cells k ws l ≡ xs
-listed-cells k {ws} {l = l} h (l_none e) = cells_none k ws l e
+listed-cells : {ws : List ℕ} (k : ℕ) {n l : ℕ} {xs : List ℕ} → n ≤ k → Listed ws n l xs → cells k ws l ≡ xs
+listed-cells {ws} k {l = l} h (l_none e) = cells_none k ws l e
 listed-cells zero h (l_cell q z t a b d) = absurd (omega arith)
-listed-cells (suc k) {ws} {l = l} h (l_cell q z t a b d) = cells-more k ws l (omega arith) ∙ ap₂ ◌∷◌ a (ap (cells k ws) b ∙ listed-cells k (omega arith) d)
+listed-cells {ws} (suc k) {l = l} h (l_cell q z t a b d) = cells-more k ws l (omega arith) ∙ ap₂ ◌∷◌ a (ap (cells k ws) b ∙ listed-cells k (omega arith) d)
 
 listed_top : (k : ℕ) {ws : List ℕ} {n l : ℕ} {xs : List ℕ} → NONE ≤ k → Listed ws n l xs → cells k ws l ≡ xs
 listed_top k h (l_none e) = listed-cells k {n = 0} (omega arith) (l_none e)

@@ -52,6 +52,8 @@ module _ (S : ℕ → Option Ty) (R C : ℕ) where
   unfolding run
   run_ends zero D σ ps q s i g w = unsaid
   run_ends (suc f) D σ [] [] s i g p_nil = ended (record { sig = D; sols = σ; run = run_done; holds = i })
+  run_ends (suc f) D σ [] (p ∷ q) s i g w = elim w [ ]
+  run_ends (suc f) D σ (c ∷ ps) [] s i g w = elim w [ ]
   run_ends (suc f) D σ (c ∷ ps) (p ∷ q) s i g (p_cons x y w) =
       bind_ends _ (step_ends D σ c.0 c.1 ps q p.0 p.1 s i g x y w) (λ _ e. e) λ s₁ next d.
       map_ends (fails_after S d.run)

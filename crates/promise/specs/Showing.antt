@@ -70,6 +70,10 @@ module _ (S : ℕ → Option Ty) (R O : ℕ) (T : Store) (D : Sig) (σ : Solutio
   each-shown write c m d f s nil e r_nil n p = each_nil
   each-shown write c m d f s (cons t a) e (r_cons {x = y} q r) n p =
       each_cons (λ s₁ h. c m d y s₁ f t h.grew.fits (h.grew.answers ∙ e) q n.0 p.0) (each-shown write c m d f s a e r n.1 p.1)
+  each-shown write c m d f s (lam _) e q n p = elim q [ ]
+  each-shown write c m d f s (con _ _) e q n p = elim q [ ]
+  each-shown write c m d f s (var _ _) e q n p = elim q [ ]
+  each-shown write c m d f s (hol _ _) e q n p = elim q [ ]
 
   -- a hole under a map that gives its context's variables places: what fills it, so renamed
   hole_shown : (write : Writer) → Shows write → (h : ℕ) (C : List Ty) (b : ℕ) (m : Map) (f : ℕ → ℕ) (s : Store) → Fits O s → s.solutions ≡ T.solutions → D h ≡ some (C, b)
@@ -109,6 +113,8 @@ module _ (S : ℕ → Option Ty) (R O : ℕ) (T : Store) (D : Sig) (σ : Solutio
       (hole_shown _ (show_ends j) v C b (follow m d 0 ys) (λ u. f (nth ys u)) s k e o
       (λ u c. follow_after m d ys u (omega arith) ∙ nth-All (λ u. place m d u ≡ some (f u)) ys p u (omega arith))
       (ap (hol v) (follow_total m d f 0 ys p) ∙ ap (ren f) (sym (ren-itself v ys)) ∙ ren_comp f (nth ys) (itself (length ys) v) ∙ ap (λ u. ren (λ w. f (nth ys w)) (itself u v)) len)))
+  show_ends (suc j) m d r s f nil k e q n p = elim q [ ]
+  show_ends (suc j) m d r s f (cons _ _) k e q n p = elim q [ ]
 
   -- the answer of hole h, over its context variables in order
   pub answer_ends : (h : ℕ) (C : List Ty) (b : ℕ) (s : Store) → D h ≡ some (C, b) → Fits O s → s.solutions ≡ T.solutions

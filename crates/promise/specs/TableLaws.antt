@@ -52,16 +52,16 @@ node_at : ℕ → List ℕ → Node → Tree
 node_at f ws (one r) = tree_at f ws r
 node_at f ws (many xs) = spine (λ x. tree_at f ws x) xs
 
-node_reads : (f : ℕ) {ws : List ℕ} {n : ℕ} {x : Node} {t : Tree} → n ≤ f → Reads ws n x t → node_at f ws x ≡ t
+node_reads : {ws : List ℕ} (f : ℕ) {n : ℕ} {x : Node} {t : Tree} → n ≤ f → Reads ws n x t → node_at f ws x ≡ t
 unfolding node_at tree_at spine
 node_reads zero h (r_lam l e x d) = absurd (omega arith)
-node_reads (suc f) {ws} h (r_lam {r = r} l e x d) = rw (form_lam ws r e, tree_at, x) (ap lam (node_reads f (omega arith) d))
+node_reads {ws} (suc f) h (r_lam {r = r} l e x d) = rw (form_lam ws r e, tree_at, x) (ap lam (node_reads f (omega arith) d))
 node_reads zero h (r_con l e x y g d) = absurd (omega arith)
-node_reads (suc f) {ws} h (r_con {r = r} {c = c} l e x y g d) = rw (form_con ws r e, tree_at, x, listed-arguments r y g) (ap (con c) (node_reads f (omega arith) d))
+node_reads {ws} (suc f) h (r_con {r = r} {c = c} l e x y g d) = rw (form_con ws r e, tree_at, x, listed-arguments r y g) (ap (con c) (node_reads f (omega arith) d))
 node_reads zero h (r_var l e x y g d) = absurd (omega arith)
-node_reads (suc f) {ws} h (r_var {r = r} {v = v} l e x y g d) = rw (form_var ws r e, tree_at, x, listed-arguments r y g) (ap (var v) (node_reads f (omega arith) d))
+node_reads {ws} (suc f) h (r_var {r = r} {v = v} l e x y g d) = rw (form_var ws r e, tree_at, x, listed-arguments r y g) (ap (var v) (node_reads f (omega arith) d))
 node_reads zero h (r_hol l e x y g d) = absurd (omega arith)
-node_reads (suc f) {ws} h (r_hol {r = r} l e x y g d) = rw (form_hol ws r e, tree_at, ap (all (bare ws)) (listed-arguments r y g) ∙ all-bare d, x, listed-variables r y g d)
+node_reads {ws} (suc f) h (r_hol {r = r} l e x y g d) = rw (form_hol ws r e, tree_at, ap (all (bare ws)) (listed-arguments r y g) ∙ all-bare d, x, listed-variables r y g d)
 node_reads f h r_nil = refl
 node_reads f h (r_cons d e) = ap₂ cons (node_reads f h d) (node_reads f h e)
 

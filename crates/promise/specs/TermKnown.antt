@@ -7,7 +7,7 @@ use Rattle.rules.specs.Store.{Store, goes}
 use Rattle.rules.specs.Map.{Map}
 use Rattle.rules.specs.Walk.{walk}
 use Rattle.invariants.specs.Floor.{All}
-use Rattle.trees.specs.Tree.{Ty, Tree, cons, lift_p, Holes, Sig}
+use Rattle.trees.specs.Tree.{Ty, Tree, lam, con, var, hol, nil, cons, lift_p, Holes, Sig}
 use Rattle.trees.specs.Moves.{Solutions, NoneFrozen}
 use Rattle.trees.specs.Free.{Scoped, All-map}
 use Rattle.trees.specs.Typing.{Declared}
@@ -127,6 +127,11 @@ module _ {R : ℕ} {s : Store} {c d l : ℕ} (ne : l ≡ NONE → ⊥) (k : List
 
       go : (t : Tree) → Reads s.words s.used (many (field_a s.words l ∷ p.0)) t → Holes (Declared k.sig) t → Scoped (d + c) t → Parts
       go (cons t a) (r_cons x y) q z = (t, a, x, record { records = p.0; listed = p.2; reads = y }, q, z)
+      go (lam _) x q z = elim x [ ]
+      go (con _ _) x q z = elim x [ ]
+      go (var _ _) x q z = elim x [ ]
+      go (hol _ _) x q z = elim x [ ]
+      go nil x q z = elim x [ ]
 
   pub known-first : TermKnown R s c d (field_a s.words l)
   known-first =

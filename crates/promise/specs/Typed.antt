@@ -97,8 +97,12 @@ module _ (ws : List ℕ) (n : ℕ) (g : Sound ws n) (small : n ≤ 4096) (S : �
       → Bares ws m xs (map (λ x. field_a ws x) xs) × Vars G (map (λ x. field_a ws x) xs) C
   unfolding each all fills
   hole_args f ctx G m k [] [] [] ty_nil l b c = (b_nil, v_nil)
+  hole_args f ctx G m k [] [] (A ∷ C) r l b c = elim r [ ]
+  hole_args f ctx G m k [] (e ∷ es) [] r l b c = elim r [ ]
   hole_args f ctx G m k [] (e ∷ es) (A ∷ C) (ty_cons d r) l b c = absurd (false_true c)
   hole_args f ctx G m k (x ∷ xs) [] [] ty_nil l b c = absurd (false_true c)
+  hole_args f ctx G m k (x ∷ xs) [] (A ∷ C) r l b c = elim r [ ]
+  hole_args f ctx G m k (x ∷ xs) (e ∷ es) [] r l b c = elim r [ ]
   hole_args f ctx G m k (x ∷ xs) (e ∷ es) (A ∷ C) (ty_cons d r) l b c =
       let p = both_true _ _ b in
       let q = both_true _ _ c in

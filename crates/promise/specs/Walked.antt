@@ -8,7 +8,6 @@ use Rattle.rules.specs.Words.{CE}
 use Rattle.rules.specs.Store.{Store}
 use Rattle.rules.specs.Map.{Map}
 use Rattle.rules.specs.Rewrite.{Writer, write_all}
-use Rattle.rules.specs.Walk.{walk}
 use Rattle.trees.specs.Tree.{Tree, lam, con, var, hol, nil, cons, Holes, Sig}
 use Rattle.trees.specs.Moves.{Grows, Solutions, NoneFrozen, Walk, w_nil, w_cons, Lost, l_first, l_rest}
 use Rattle.trees.specs.Typing.{Declared}
@@ -99,6 +98,16 @@ module _ (R u : ℕ) where
     later = later_refl;
     declares = λ _ _ e. e;
   })
+  all_walked write c m d [] s D σ (lam _) i q n = elim q [ ]
+  all_walked write c m d [] s D σ (con _ _) i q n = elim q [ ]
+  all_walked write c m d [] s D σ (var _ _) i q n = elim q [ ]
+  all_walked write c m d [] s D σ (hol _ _) i q n = elim q [ ]
+  all_walked write c m d [] s D σ (cons _ _) i q n = elim q [ ]
+  all_walked write c m d (x ∷ xs) s D σ (lam _) i q n = elim q [ ]
+  all_walked write c m d (x ∷ xs) s D σ (con _ _) i q n = elim q [ ]
+  all_walked write c m d (x ∷ xs) s D σ (var _ _) i q n = elim q [ ]
+  all_walked write c m d (x ∷ xs) s D σ (hol _ _) i q n = elim q [ ]
+  all_walked write c m d (x ∷ xs) s D σ nil i q n = elim q [ ]
   all_walked write c m d (x ∷ xs) s D σ (cons t a) i (r_cons q r) n =
       bind_ends _ (c 1 m d x s D σ t i q n.0 tt) (lost_map u 1 1 l_first) λ s₁ y w.
       bind_ends _

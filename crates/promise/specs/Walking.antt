@@ -15,7 +15,7 @@ use Rattle.rules.specs.Store.{Store, solved, solution}
 use Rattle.rules.specs.Map.{Map, sources, targets, place_of, follow}
 use Rattle.rules.specs.Rewrite.{Writer, write_all, write_term}
 use Rattle.rules.specs.Walk.{keep_placed, walk_hole, walk}
-use Rattle.trees.specs.Tree.{Tree, lam, con, var, hol, AllL, Sig}
+use Rattle.trees.specs.Tree.{Tree, lam, con, var, hol, nil, cons, AllL, Sig}
 use Rattle.trees.specs.Moves.{Solutions, NoneFrozen, w_lam, w_con, w_var, w_solved, w_kept, w_narrowed, Lost, l_escape, l_occurs, l_lam, l_con, l_var, l_solved}
 use Rattle.trees.specs.Free.{AllL-map}
 use Rattle.trees.specs.Typing.{Declared}
@@ -171,3 +171,5 @@ module _ (R u : ℕ) where
           }) (push_ends R VA p b s₁ w.holds.fits))
   walk_ends (suc n) k m d r s D σ (hol v ys) i (r_hol l e x y g q) h z =
       rw (form_hol s.words r e, write_term) (hole_walked _ (walk_ends n) k m d r s D σ v ys i x (listed-variables r y g q) h z)
+  walk_ends (suc n) k m d r s D σ nil i q h z = elim q [ ]
+  walk_ends (suc n) k m d r s D σ (cons _ _) i q h z = elim q [ ]

@@ -2,7 +2,7 @@
 use Rattle.std.specs.Prelude.{ℕ, ◌≤◌, ◌≡◌, refl, List, true, take, replicate}
 use Rattle.std.proofs.Common.{ap, inl, arith}
 use Rattle.rules.specs.Answers.{number, reply, records, pairs}
-use Rattle.rules.specs.Store.{Out, goes, fails, spent, solved}
+use Rattle.rules.specs.Store.{Out, goes, fails, spent}
 use Rattle.rules.specs.Machine.{Pair, run, steps, equations}
 use Rattle.rules.specs.Solve.{admitted, refused, refusal, Behind, start, emptied, leaves, solve, unsaid}
 use Rattle.rules.specs.All.{everything}
