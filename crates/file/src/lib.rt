@@ -55,6 +55,7 @@ fn tag_at(file: &[u8], r: u32) -> Found
 }
 
 // The tag word of a mark.
+#[tactic(auto, unfolding(rules::specs::File::tag_word))]
 fn tag_word(found: Found) -> u32
     ensures { tag_word found ≡ result }
 {
