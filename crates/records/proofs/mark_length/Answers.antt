@@ -1,4 +1,3 @@
-use borrow.Author.Rules.{rules}
 use Rattle.records.proofs.Cells.{length-one, length_low, length_long, length_more}
 use Rattle.records.proofs.mark_length.Goals as goal
 
