@@ -1,7 +1,4 @@
-use Prim.Native.Nat.{◌-◌}
-use native.Mathlib.Omega.{arith}
-use borrow.Author.Rules.{rules}
-use Rattle.records.proofs.Passing.{Going, going_start, going_asks, going_stop, going_notes, going_on, going_end}
+use Rattle.records.proofs.Passing.{going_start, going_asks, going_stop, going_notes, going_on, going_end}
 use Rattle.records.proofs.broken.Goals as goal
 
 pub loop-r-init : goal.loop-r-init

@@ -1,6 +1,5 @@
 use mathlib.Core.Path.{sym, ◌∙◌}
 use Rattle.records.proofs.Earlier.{equals-tag, equals-a}
-use borrow.Author.Rules.{rules}
 use Rattle.records.proofs.equal.Goals as goal
 
 pub returns-then-y-x : goal.returns-then-y-x

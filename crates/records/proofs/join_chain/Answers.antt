@@ -1,6 +1,6 @@
 use borrow.Author.Rules.{rules}
 use lib.ListN.{length-set}
-use Rattle.records.proofs.Earlier.{Searched, key_low, key_few, search_start, at_few, at_inside, at_room, search_stop, search_on, search_falls, search_end}
+use Rattle.records.proofs.Earlier.{key_low, key_few, search_start, at_few, at_inside, at_room, search_stop, search_on, search_falls, search_end}
 use Rattle.records.proofs.join_chain.Goals as goal
 
 pub offset_bounds-last-key : goal.offset_bounds-last-key

@@ -1,6 +1,4 @@
-use borrow.Author.Rules.{rules}
-use lib.ListN.{length-set}
-use Rattle.records.proofs.Earlier.{Searched, key_low, key_few, search_start, at_few, at_inside, at_room, search_stop, search_on, search_falls, search_end}
+use Rattle.records.proofs.Earlier.{Searched}
 use Rattle.records.proofs.join_chain.Given as goal
 
 abbrev pub invariant-loop-j : goal.invariant-loop-j

@@ -1,4 +1,3 @@
-use borrow.Author.Rules.{rules}
 use Rattle.records.proofs.Judging.{lies_low, lies_high}
 use Rattle.records.proofs.lies.Goals as goal
 

@@ -1,4 +1,3 @@
-use borrow.Author.Rules.{rules}
 use Rattle.records.proofs.Judging.{below_yes, below_no}
 use Rattle.records.proofs.lower_mark.Goals as goal
 

@@ -1,4 +1,3 @@
-use borrow.Author.Rules.{rules}
 use Rattle.records.proofs.Judging.{first_cell_none, first_cell_some}
 use Rattle.records.proofs.mark_first_cell.Goals as goal
 

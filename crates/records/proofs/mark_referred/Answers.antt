@@ -1,4 +1,3 @@
-use borrow.Author.Rules.{rules}
 use Rattle.records.proofs.Judging.{referred_low, referred_high, referred_room, referred_so}
 use Rattle.records.proofs.mark_referred.Goals as goal
 

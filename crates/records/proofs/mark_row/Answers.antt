@@ -1,4 +1,5 @@
-use mathlib.Core.Path.{◌∙◌}
+use mathlib.Core.Path.{◌∙◌, ap}
+use mathlib.Core.Bool.{not}
 use lib.ListN.{length-set}
 use borrow.Author.Rules.{rules}
 use Rattle.records.proofs.Fields.{row_a, row_b, row_c, row_end}
@@ -18,9 +19,8 @@ shape_of-marks c = simp length-set (search rules)
 
 pub returns : goal.returns
 returns c =
-    let p = c.requires in
-    let x = c.read-x.ensures in
-    let a = c.mark_field in
-    let b = c.mark_field-2 in
-    let d = c.mark_field-3 in
-    row_end _ _ _ _ _ _ p _ x _ _ a.ensures c.if-not-mark_field.false _ _ b.ensures c.if-not-mark_field-2.false _ _ d.ensures c.if-not-mark_field-3.false (d.auto.0 ∙ b.auto.0 ∙ a.auto.0)
+    let a = ap not c.if-not-mark_field.false in
+    let b = ap not c.if-not-mark_field-2.false in
+    let d = ap not c.if-not-mark_field-3.false in
+    let same = c.mark_field-3.auto.marks ∙ c.mark_field-2.auto.marks ∙ c.mark_field.auto.marks in
+    row_end _ _ _ _ _ _ c.requires _ c.read-x.ensures _ _ c.mark_field.ensures a _ _ c.mark_field-2.ensures b _ _ c.mark_field-3.ensures d same

@@ -1,4 +1,3 @@
-use borrow.Author.Rules.{rules}
 use Rattle.records.proofs.Noting.{note_other, note_one}
 use Rattle.records.proofs.note.Goals as goal
 
