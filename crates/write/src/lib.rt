@@ -148,6 +148,7 @@ fn unwriting(unwritten: Unwritten) -> Reply
 }
 
 // The first n records of a table are written to a file: 4, then 5, then 14, with nothing written in each case; bytes past the file stay.
+#[tactic(auto, using(crate::proofs::Ending::above_most))]
 pub fn write(table: &[u32], n: usize, file: &mut [u8]) -> Reply
     ensures { writeOf table.now n file.old ≡ record { file = file.new; said = result } }
 {
