@@ -110,7 +110,9 @@ pub check_term-returns-in_default : goal.check_term-returns-in_default
 check_term-returns-in_default t c = search no_arrow
 
 pub check_term-overflow_add-d : goal.check_term-overflow_add-d
-check_term-overflow_add-d t c = let room = c.loop-stack.invariant.asks.room in omega arith
+check_term-overflow_add-d t c =
+    let room = c.loop-stack.invariant.asks.room in
+    omega arith
 
 pub check_term-loop-stack-smaller-then-x-eq-LA : goal.check_term-loop-stack-smaller-then-x-eq-LA
 check_term-loop-stack-smaller-then-x-eq-LA t c = search body_less
@@ -131,28 +133,53 @@ pub check_term-returns-in_default-head_type : goal.check_term-returns-in_default
 check_term-returns-in_default-head_type t c = search head-free
 
 pub check_term-final_type-f-requires : goal.check_term-final_type-f-requires
-check_term-final_type-f-requires t c = let h : Headed c.loop-stack.invariant c.read-x.result c.in-At-head_type.head = search headed in search rules
-
-pub check_term-returns-then-f-at : goal.check_term-returns-then-f-at
-check_term-returns-then-f-at t c = let h : Headed c.loop-stack.invariant c.read-x.result c.in-At-head_type.head = search headed in search other_base
+check_term-final_type-f-requires t c =
+    let rigid : Headed c.loop-stack.invariant c.read-x.result c.in-At-head_type.head = search headed in
+    search rules
 
 pub check_term-returns-then-f-eq0 : goal.check_term-returns-then-f-eq0
-check_term-returns-then-f-eq0 t c = let h : Headed c.loop-stack.invariant c.read-x.result c.in-At-head_type.head = search headed in search none_asked
+check_term-returns-then-f-eq0 t c =
+    let rigid : Headed c.loop-stack.invariant c.read-x.result c.in-At-head_type.head = search headed in
+    search none_asked
 
 pub check_term-returns-then-x : goal.check_term-returns-then-x
-check_term-returns-then-x t c = let h : Headed c.loop-stack.invariant c.read-x.result c.in-At-head_type.head = search headed in let k : Asking h t c.final_type-f.result = search rules in search none_given
+check_term-returns-then-x t c =
+    let rigid : Headed c.loop-stack.invariant c.read-x.result c.in-At-head_type.head = search headed in
+    let asking : Asking rigid t c.final_type-f.result = search rules in
+    search none_given
 
 pub check_term-check_args-requires : goal.check_term-check_args-requires
-check_term-check_args-requires t c = let h : Headed c.loop-stack.invariant c.read-x.result c.in-At-head_type.head = search headed in let k : Asking h t c.final_type-f.result = search rules in (search arguments_less, search list_asks)
+check_term-check_args-requires t c =
+    let rigid : Headed c.loop-stack.invariant c.read-x.result c.in-At-head_type.head = search headed in
+    let asking : Asking rigid t c.final_type-f.result = search rules in
+    (search arguments_less, search list_asks)
 
 pub check_term-shape_of-stack-in_default-check_args : goal.check_term-shape_of-stack-in_default-check_args
-check_term-shape_of-stack-in_default-check_args t c = let h : Headed c.loop-stack.invariant c.read-x.result c.in-At-head_type.head = search headed in let k : Asking h t c.final_type-f.result = search rules in let long = stack_long {g = h} k in search rules
+check_term-shape_of-stack-in_default-check_args t c =
+    let rigid : Headed c.loop-stack.invariant c.read-x.result c.in-At-head_type.head = search headed in
+    let asking : Asking rigid t c.final_type-f.result = search rules in
+    let long = stack_long {g = rigid} asking in
+    search rules
 
 pub check_term-returns-in_default-check_args : goal.check_term-returns-in_default-check_args
-check_term-returns-in_default-check_args t c = let h : Headed c.loop-stack.invariant c.read-x.result c.in-At-head_type.head = search headed in let k : Asking h t c.final_type-f.result = search rules in search list_fails
+check_term-returns-in_default-check_args t c =
+    let rigid : Headed c.loop-stack.invariant c.read-x.result c.in-At-head_type.head = search headed in
+    let asking : Asking rigid t c.final_type-f.result = search rules in
+    search list_fails
 
 pub check_term-loop-stack-smaller : goal.check_term-loop-stack-smaller
-check_term-loop-stack-smaller t c = let h : Headed c.loop-stack.invariant c.read-x.result c.in-At-head_type.head = search headed in let k : Asking h t c.final_type-f.result = search rules in search last_less
+check_term-loop-stack-smaller t c =
+    let rigid : Headed c.loop-stack.invariant c.read-x.result c.in-At-head_type.head = search headed in
+    let asking : Asking rigid t c.final_type-f.result = search rules in
+    search last_less
 
 pub check_term-loop-stack-preserved : goal.check_term-loop-stack-preserved
-check_term-loop-stack-preserved t c = let h : Headed c.loop-stack.invariant c.read-x.result c.in-At-head_type.head = search headed in let k : Asking h t c.final_type-f.result = search rules in last_next {g = h} k _ _ _ c.check_args.ensures (search rules) (search rules)
+check_term-loop-stack-preserved t c =
+    let rigid : Headed c.loop-stack.invariant c.read-x.result c.in-At-head_type.head = search headed in
+    let asking : Asking rigid t c.final_type-f.result = search rules in
+    last_next {g = rigid} asking _ _ _ c.check_args.ensures (search rules) (search rules)
+
+pub check_term-returns-then-f-at : goal.check_term-returns-then-f-at
+check_term-returns-then-f-at t c =
+    let rigid : Headed c.loop-stack.invariant c.read-x.result c.in-At-head_type.head = search headed in
+    search other_base
