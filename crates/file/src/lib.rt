@@ -131,7 +131,7 @@ fn unreading(unread: Unread) -> Reply
 
 // A file is read into a table: 12, then 4, then 13; successful reading writes only the file's n records.
 pub fn read(file: &[u8], table: &mut [u32]) -> Reply
-    ensures { read_of file.now table.entry.now ≡ record { table = table.exit.now; said = result } }
+    ensures { read_of file.now table.old ≡ record { table = table.new; said = result } }
 {
     let len = file.len();
     if 28672 < len {
