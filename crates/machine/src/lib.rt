@@ -45,7 +45,7 @@ fn run(
     let mut u = n;
     let mut l = left;
     let mut r = right;
-    loop {
+    'turns: loop {
         match take_step(table, solutions, queue, n, u, room, cap, g, l, r) {
             Step::Failed(e) => return Ran::Failed(e),
             Step::On { left, right, used } => {

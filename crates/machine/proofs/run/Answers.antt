@@ -5,8 +5,8 @@ use Rattle.queue.specs.RingLaws.{fine_front, fine_some}
 use Rattle.machine.proofs.Turning.{Waits, turn_first, turn_stood, turn_fails, on_less, turn_on, turn_ends, turn_waits, takes_less, turn_takes}
 use Rattle.machine.proofs.run.Goals as goal
 
-pub loop-e-init : goal.loop-e-init
-loop-e-init c = search turn_first
+pub turns-init : goal.turns-init
+turns-init c = search turn_first
 
 pub take_step-requires : goal.take_step-requires
 take_step-requires c = search turn_stood
@@ -14,11 +14,11 @@ take_step-requires c = search turn_stood
 pub returns-in-Failed : goal.returns-in-Failed
 returns-in-Failed c = search turn_fails
 
-pub loop-e-smaller-in-On : goal.loop-e-smaller-in-On
-loop-e-smaller-in-On c = search on_less
+pub turns-smaller-in-On : goal.turns-smaller-in-On
+turns-smaller-in-On c = search on_less
 
-pub loop-e-preserved-in-On : goal.loop-e-preserved-in-On
-loop-e-preserved-in-On c = search turn_on
+pub turns-preserved-in-On : goal.turns-preserved-in-On
+turns-preserved-in-On c = search turn_on
 
 pub returns-then-count-eq0 : goal.returns-then-count-eq0
 returns-then-count-eq0 c = search turn_ends
@@ -26,7 +26,7 @@ returns-then-count-eq0 c = search turn_ends
 pub peek-p-requires : goal.peek-p-requires
 peek-p-requires c =
     let h : Waits c.args.room c.args.n c.args.cap ((c.args.left, c.args.right) ∷ view c.args.queue.now c.args.cap c.args.ring) c.args.table.now c.args.solutions.now c.args.n c.args.queue.now
-    (ahead c.args.room c.args.cap c.loop-e.u ((c.loop-e.l, c.loop-e.r) ∷ view c.loop-e.queue c.args.cap c.loop-e.g))
+    (ahead c.args.room c.args.cap c.turns.u ((c.turns.l, c.turns.r) ∷ view c.turns.queue c.args.cap c.turns.g))
     c.take_step.new.table c.take_step.new.solutions c.in-Done.u1 c.take_step.new.queue c.in-Done.g1 =
     search turn_waits in
     search fine_front
@@ -34,23 +34,23 @@ peek-p-requires c =
 pub leave-g-requires : goal.leave-g-requires
 leave-g-requires c =
     let h : Waits c.args.room c.args.n c.args.cap ((c.args.left, c.args.right) ∷ view c.args.queue.now c.args.cap c.args.ring) c.args.table.now c.args.solutions.now c.args.n c.args.queue.now
-    (ahead c.args.room c.args.cap c.loop-e.u ((c.loop-e.l, c.loop-e.r) ∷ view c.loop-e.queue c.args.cap c.loop-e.g))
+    (ahead c.args.room c.args.cap c.turns.u ((c.turns.l, c.turns.r) ∷ view c.turns.queue c.args.cap c.turns.g))
     c.take_step.new.table c.take_step.new.solutions c.in-Done.u1 c.take_step.new.queue c.in-Done.g1 =
     search turn_waits in
     search fine_some
 
-pub loop-e-smaller : goal.loop-e-smaller
-loop-e-smaller c =
+pub turns-smaller : goal.turns-smaller
+turns-smaller c =
     let h : Waits c.args.room c.args.n c.args.cap ((c.args.left, c.args.right) ∷ view c.args.queue.now c.args.cap c.args.ring) c.args.table.now c.args.solutions.now c.args.n c.args.queue.now
-    (ahead c.args.room c.args.cap c.loop-e.u ((c.loop-e.l, c.loop-e.r) ∷ view c.loop-e.queue c.args.cap c.loop-e.g))
+    (ahead c.args.room c.args.cap c.turns.u ((c.turns.l, c.turns.r) ∷ view c.turns.queue c.args.cap c.turns.g))
     c.take_step.new.table c.take_step.new.solutions c.in-Done.u1 c.take_step.new.queue c.in-Done.g1 =
     search turn_waits in
     search takes_less
 
-pub loop-e-preserved : goal.loop-e-preserved
-loop-e-preserved c =
+pub turns-preserved : goal.turns-preserved
+turns-preserved c =
     let h : Waits c.args.room c.args.n c.args.cap ((c.args.left, c.args.right) ∷ view c.args.queue.now c.args.cap c.args.ring) c.args.table.now c.args.solutions.now c.args.n c.args.queue.now
-    (ahead c.args.room c.args.cap c.loop-e.u ((c.loop-e.l, c.loop-e.r) ∷ view c.loop-e.queue c.args.cap c.loop-e.g))
+    (ahead c.args.room c.args.cap c.turns.u ((c.turns.l, c.turns.r) ∷ view c.turns.queue c.args.cap c.turns.g))
     c.take_step.new.table c.take_step.new.solutions c.in-Done.u1 c.take_step.new.queue c.in-Done.g1 =
     search turn_waits in
     search turn_takes

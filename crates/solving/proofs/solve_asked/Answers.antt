@@ -1,3 +1,4 @@
+use Rattle.std.proofs.Common.{arith}
 use Rattle.solving.proofs.Leaving.{left-outside, inside_fits, inside_few, inside_most}
 use Rattle.solving.proofs.solve_asked.Goals as goal
 
@@ -9,7 +10,7 @@ overflow_cast-n c = search inside_fits
 
 pub check_few-requires : goal.check_few-requires
 check_few-requires c =
-    inside_few _ _ _ _ c.out_of_room.ensures c.if-out_of_room.false 256 c.if-n-le256.true
+    inside_few _ _ _ _ c.out_of_room.ensures c.if-out_of_room.false 256 (omega arith)
 
 pub overflow_cast-n-2 : goal.overflow_cast-n-2
 overflow_cast-n-2 c = search inside_fits
