@@ -1,5 +1,4 @@
 -- The calls that may still be made are counted down.
-use Rattle.std.proofs.Common.{◌≡◌, length}
 use Rattle.tanczotka.proofs.read_some.Given as goal
 
 abbrev pub decreases-loop-calls : goal.decreases-loop-calls

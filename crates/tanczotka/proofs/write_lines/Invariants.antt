@@ -1,5 +1,5 @@
 -- At most half of the buffer is filled before each line.
-use Rattle.std.proofs.Common.{◌≡◌, ◌+◌, ◌-◌, length}
+use Rattle.std.proofs.Common.{◌+◌, ◌-◌}
 use Rattle.tanczotka.specs.Gathering.{Gathers}
 use Rattle.tanczotka.proofs.write_lines.Given as goal
 
