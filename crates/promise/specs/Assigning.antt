@@ -19,8 +19,8 @@ use Rattle.trees.specs.Free.{AllL-map}
 use Rattle.trees.specs.Typing.{Declared, typed-holes}
 use Rattle.trees.specs.Places.{part, vars_part}
 use Rattle.trees.specs.Update.{update, adds_update}
-use Rattle.trees.specs.Leads.{run_same, declared_once}
-use Rattle.trees.specs.Walk.{solve_by_walk, walk_spares}
+use Rattle.trees.proofs.Leads.{run_same, declared_once}
+use Rattle.trees.proofs.Walk.{solve_by_walk, walk_spares}
 use Rattle.promise.specs.Reading.{one, Reads}
 use Rattle.promise.specs.Outcomes.{Ends, ended, bind_ends, map_ends}
 use Rattle.promise.specs.Maps.{place, place_inverts}

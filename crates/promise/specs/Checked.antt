@@ -15,7 +15,7 @@ use Rattle.rules.specs.Pattern.{pattern, offence_in, offence}
 use Rattle.laws.specs.Tests.{both_true, both_yes, either_left, has_yes, tag_is}
 use Rattle.laws.specs.Sound.{Sound, lambda_field, constant_head, hole_head, constant_list, variable_list}
 use Rattle.trees.specs.Tree.{Ty, base, arr, Tree, lam, con, var, hol, nil, AllL, Distinct, Kind, at, args, At, Vars, v_nil, v_cons, Sig, HasTy, t_lam, t_con, t_var, t_hol, t_nil, t_cons}
-use Rattle.trees.specs.Leads.{declared_once}
+use Rattle.trees.proofs.Leads.{declared_once}
 use Rattle.promise.specs.Table.{spine, tree_at}
 use Rattle.promise.specs.Reading.{l_none, ReadsTy, ty_base, ty_arr, ReadsTys, ty_nil, ty_cons, HoleAt, same_refl, lower, type_later, types_later, listed-elements, listed-arguments}
 use Rattle.promise.specs.Rewriting.{form_lam, form_con, form_var, form_hol}

@@ -15,10 +15,10 @@ use Rattle.trees.specs.Moves.{nothing, Good, Run, NoneFrozen}
 use Rattle.trees.specs.Statements.{Expansion}
 use Rattle.trees.specs.Filling.{Holes-map}
 use Rattle.trees.specs.Typing.{typed-holes}
-use Rattle.trees.specs.Order.{stamped_ranked}
-use Rattle.trees.specs.Leads.{run-leads}
-use Rattle.trees.specs.Expand.{stamped_expands}
-use Rattle.trees.specs.Demand.{run-start}
+use Rattle.trees.proofs.Order.{stamped_ranked}
+use Rattle.trees.proofs.Leads.{run-leads}
+use Rattle.trees.proofs.Expand.{stamped_expands}
+use Rattle.trees.proofs.Demand.{run-start}
 use Rattle.promise.specs.Table.{constants, holes, sides, solution_of, filling}
 use Rattle.promise.specs.Demand.{holes_in}
 use Rattle.promise.specs.Outcomes.{Ends, failed, map_ends}

@@ -13,7 +13,7 @@ use Rattle.trees.specs.Tree.{Ty, base, Tree, lam, con, var, hol, nil, cons, ren,
 use Rattle.trees.specs.Moves.{Solutions, Good, move_expand, run_done}
 use Rattle.trees.specs.Free.{Scoped}
 use Rattle.trees.specs.Typing.{typed_scoped, typed-holes}
-use Rattle.trees.specs.Leads.{declared_once}
+use Rattle.trees.proofs.Leads.{declared_once}
 use Rattle.promise.specs.Reading.{one, Reads, r_lam, r_con, r_var, r_hol, listed-variables}
 use Rattle.promise.specs.Outcomes.{Ends, ended, bind_ends, map_ends, unsaid, OnlyFull, Appends, appends_refl, appends_trans}
 use Rattle.promise.specs.Copying.{copy-solution}

@@ -13,7 +13,7 @@ use Rattle.rules.specs.Machine.{Pair, Next, step, upcoming, equations}
 use Rattle.rules.specs.Solve.{start}
 use Rattle.trees.specs.Tree.{Ty, Tree, Sig, Pairs}
 use Rattle.trees.specs.Moves.{Solutions, Good, NoneFrozen, nothing, move_swap}
-use Rattle.trees.specs.Demand.{run-start}
+use Rattle.trees.proofs.Demand.{run-start}
 use Rattle.promise.specs.Table.{constants, holes}
 use Rattle.promise.specs.Reading.{one, Reads, reads_later, listed-elements}
 use Rattle.promise.specs.Outcomes.{went}

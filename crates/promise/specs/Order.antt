@@ -13,7 +13,7 @@ use Rattle.rules.specs.Machine.{Pair, equations}
 use Rattle.rules.specs.Solve.{solve}
 use Rattle.trees.specs.Tree.{Ty, Tree, inst, Fills, Pairs}
 use Rattle.trees.specs.Pairs.{each_perm}
-use Rattle.trees.specs.Leads.{fills_less}
+use Rattle.trees.proofs.Leads.{fills_less}
 use Rattle.promise.specs.Table.{type_of, tree_of, pair_of, constants, holes, sides, filling}
 use Rattle.promise.specs.Demand.{left, holes_in, pairs_from, Reordered}
 use Rattle.promise.specs.Reading.{one, Reads, r_lam, r_con, r_var, r_hol, HoleAt, Same, same_less, same_tag, same_a, reads_later, type_later, hole_later}

@@ -10,7 +10,7 @@ use Rattle.trees.specs.Tree.{Ty, base, Tree, hol, ren, nth, Sig, Kind, at, HasTy
 use Rattle.trees.specs.Free.{All-map}
 use Rattle.trees.specs.Moves.{Solutions, SolTyped}
 use Rattle.trees.specs.Typing.{vars_embed, ren-typed, typed_scoped, typed-holes}
-use Rattle.trees.specs.Leads.{declared_once}
+use Rattle.trees.proofs.Leads.{declared_once}
 use Rattle.trees.specs.Scopes.{sol_scoped}
 use Rattle.promise.specs.Reading.{one, Reads}
 use Rattle.promise.specs.Outcomes.{went}

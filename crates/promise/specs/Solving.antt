@@ -12,10 +12,10 @@ use Rattle.rules.specs.Machine.{Pair, machine}
 use Rattle.rules.specs.Solve.{Refusal, admitted, refused, refusal, start, emptied, Behind, leaves, solve}
 use Rattle.trees.specs.Tree.{Tree, Sig, PairsTyped}
 use Rattle.trees.specs.Moves.{nothing, NoneFrozen}
-use Rattle.trees.specs.Leads.{run-leads}
-use Rattle.trees.specs.Expand.{stamped_expands_once}
-use Rattle.trees.specs.Demand.{run-start}
-use Rattle.trees.specs.Theorems.{solved_is_most_general, left_is_unsolved, failed_has_no_filling}
+use Rattle.trees.proofs.Leads.{run-leads}
+use Rattle.trees.proofs.Expand.{stamped_expands_once}
+use Rattle.trees.proofs.Demand.{run-start}
+use Rattle.trees.proofs.Theorems.{solved_is_most_general, left_is_unsolved, failed_has_no_filling}
 use Rattle.promise.specs.Table.{constants, holes, sides, solution_of, filling}
 use Rattle.promise.specs.Demand.{TypedPatterns, Unifies, MostGeneral, Means, holes_in}
 use Rattle.promise.specs.Outcomes.{Ends, ended, failed, unsaid}

@@ -11,8 +11,8 @@ use Rattle.trees.specs.Tree.{Ty, Tree, lam, con, var, hol, nil, cons, lift_p, Ho
 use Rattle.trees.specs.Moves.{Solutions, NoneFrozen}
 use Rattle.trees.specs.Free.{Scoped, All-map}
 use Rattle.trees.specs.Typing.{Declared}
-use Rattle.trees.specs.Leads.{declared_once}
-use Rattle.trees.specs.Walk.{declared_later}
+use Rattle.trees.proofs.Leads.{declared_once}
+use Rattle.trees.proofs.Walk.{declared_later}
 use Rattle.trees.specs.Scopes.{SolScoped, walk_scoped}
 use Rattle.promise.specs.Reading.{Listed, one, many, Reads, r_cons}
 use Rattle.promise.specs.Outcomes.{went}

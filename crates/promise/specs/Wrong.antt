@@ -8,7 +8,7 @@ use Rattle.rules.specs.Solve.{admitted, refused, refusal, Behind, start, emptied
 use Rattle.rules.specs.All.{everything}
 use Rattle.rules.specs.Table.{Example, examples}
 use Rattle.trees.specs.Tree.{Tree, lam, con, var, hol, nil, cons}
-use Rattle.trees.specs.Leads.{fills_less}
+use Rattle.trees.proofs.Leads.{fills_less}
 use Rattle.promise.specs.Table.{constants, holes, sides, filling, type_at, spine, tree_at, solution_of, expanded}
 use Rattle.promise.specs.Demand.{Solver, Means, Demand3, Demand2}
 use Rattle.promise.specs.Examples.{table, count, tried, P}

@@ -10,7 +10,8 @@ use Rattle.trees.specs.Narrow.{narrow_same, narrow_same_back}
 use Rattle.trees.specs.Typing.{vars_nth, vars_length, renames_reflects, vars_embed, Declared, ren-typed, strengthen, typed-more, typed-holes, fills_scoped, fills_suits}
 use Rattle.trees.specs.Pairs.{each_map, each_both, each_append, spreads_equates}
 use Rattle.trees.specs.Update.{update, update_same, update_other, adds_other}
-use Rattle.trees.specs.Order.{SolIn, stamped_narrow}
+use Rattle.trees.specs.Order.{SolIn}
+use Rattle.trees.proofs.Order.{stamped_narrow}
 
 pub declared_once : {C B : List Ty} {b c : ℕ} → ◌≡◌ {A = Option (List Ty × ℕ)} (some (C, b)) (some (B, c)) → (C ≡ B) × (b ≡ c)
 declared_once {C} {B} {b} {c} e = let z = some-injective (C, b) (B, c) e in (ap (λ x. x.0) z, ap (λ x. x.1) z)

@@ -12,10 +12,11 @@ use Rattle.trees.specs.Filling.{Holes-map, Holes-both}
 use Rattle.trees.specs.Narrow.{narrow_unique}
 use Rattle.trees.specs.Typing.{Declared, typed_scoped, typed-holes}
 use Rattle.trees.specs.Pairs.{each_perm}
-use Rattle.trees.specs.Order.{Ranked, stamped_ranked, stamped_nothing}
-use Rattle.trees.specs.Leads.{leads_refl}
-use Rattle.trees.specs.Stuck.{Stuck, stuck_before}
-use Rattle.trees.specs.Expand.{expansion_keeps, expansion_alone, expansion_left, expansion_typed, expansion_general}
+use Rattle.trees.specs.Order.{Ranked, stamped_nothing}
+use Rattle.trees.proofs.Order.{stamped_ranked}
+use Rattle.trees.proofs.Leads.{leads_refl}
+use Rattle.trees.proofs.Stuck.{Stuck, stuck_before}
+use Rattle.trees.proofs.Expand.{expansion_keeps, expansion_alone, expansion_left, expansion_typed, expansion_general}
 
 -- two fillings with one instance of t agree on the holes of t: a renaming by different arguments is injective
 inst_inj : (ρ π : ℕ → Tree) (t : Tree) → Holes (λ g xs. Distinct xs × Scoped (length xs) (ρ g) × Scoped (length xs) (π g)) t

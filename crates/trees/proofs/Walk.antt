@@ -8,10 +8,11 @@ use Rattle.trees.specs.Statements.{WalkSolves}
 use Rattle.trees.specs.Filling.{Holes-map}
 use Rattle.trees.specs.Typing.{Declared, typed-holes}
 use Rattle.trees.specs.Update.{update, adds_other}
-use Rattle.trees.specs.Order.{climbs_adds, SolIn, unsolved_before, climbs_more, Later, later_refl, later_trans, later_narrow}
-use Rattle.trees.specs.Leads.{declared_once, sol_in, run-leads, run_trans}
-use Rattle.trees.specs.Read.{Owes, owes_start, owes_later, owes_lam, owes_con, owes_var, owes_first, owes_rest, owes_solved, Reads, reads_later, reads_lam, reads_con, reads_var, reads_nil, reads_cons, reads_kept, reads_solved, reads_narrowed, reads_solves}
-use Rattle.trees.specs.Stuck.{Stuck, stuck_before, stuck_clash, stuck_escape, stuck_occurs, stuck_frozen}
+use Rattle.trees.specs.Order.{climbs_adds, SolIn, unsolved_before, climbs_more, Later, later_refl, later_trans}
+use Rattle.trees.proofs.Order.{later_narrow}
+use Rattle.trees.proofs.Leads.{declared_once, sol_in, run-leads, run_trans}
+use Rattle.trees.proofs.Read.{Owes, owes_start, owes_later, owes_lam, owes_con, owes_var, owes_first, owes_rest, owes_solved, Reads, reads_later, reads_lam, reads_con, reads_var, reads_nil, reads_cons, reads_kept, reads_solved, reads_narrowed, reads_solves}
+use Rattle.trees.proofs.Stuck.{Stuck, stuck_before, stuck_clash, stuck_escape, stuck_occurs, stuck_frozen}
 
 pub declared_later : (D E : Sig) → Grows D E → (t : Tree) → Holes (Declared D) t → Holes (Declared E) t
 declared_later D E g t h = Holes-map (λ i _ d. (d.0, d.1, g i (d.0, d.1) d.2, d.3, d.4)) t h

@@ -7,11 +7,11 @@ use Rattle.trees.specs.Tree.{Ty, base, arr, Tree, lam, con, var, hol, nil, cons,
 use Rattle.trees.specs.Moves.{Solutions, nothing, move_lam, move_swap, move_drop, move_expand, Run, run_done, run_step, Def, Covers, Walk, w_con, w_var, w_nil, w_cons, w_kept, w_narrowed, NoneFrozen}
 use Rattle.trees.specs.Statements.{Expansion, Principal}
 use Rattle.trees.specs.Update.{update, adds_update}
-use Rattle.trees.specs.Leads.{run_trans, run_same}
-use Rattle.trees.specs.Read.{back, back_inverts}
-use Rattle.trees.specs.Walk.{solve_by_walk}
-use Rattle.trees.specs.Demand.{run-start}
-use Rattle.trees.specs.Theorems.{solved_is_most_general}
+use Rattle.trees.proofs.Leads.{run_trans, run_same}
+use Rattle.trees.proofs.Read.{back, back_inverts}
+use Rattle.trees.proofs.Walk.{solve_by_walk}
+use Rattle.trees.proofs.Demand.{run-start}
+use Rattle.trees.proofs.Theorems.{solved_is_most_general}
 
 -- the base type i, and the constants a of type i, f from i to i, g of two arguments
 abbrev pub i : Ty

@@ -8,11 +8,11 @@ use Rattle.trees.specs.Statements.{SolvedIsMostGeneral, LeftIsUnsolved, SolvedLe
 use Rattle.trees.specs.Filling.{inst-itself}
 use Rattle.trees.specs.Typing.{typed_scoped}
 use Rattle.trees.specs.Pairs.{each_perm}
-use Rattle.trees.specs.Leads.{fills_less, run-leads}
-use Rattle.trees.specs.Walk.{fails_stuck}
-use Rattle.trees.specs.Expand.{stamped_expands, stamped_expands_once}
-use Rattle.trees.specs.Demand.{run-start, run-solved, run-left, run-leaves, run_stuck, general_perm}
-pub use Rattle.trees.specs.Walk.{walk_solves}
+use Rattle.trees.proofs.Leads.{fills_less, run-leads}
+use Rattle.trees.proofs.Walk.{fails_stuck}
+use Rattle.trees.proofs.Expand.{stamped_expands, stamped_expands_once}
+use Rattle.trees.proofs.Demand.{run-start, run-solved, run-left, run-leaves, run_stuck, general_perm}
+pub use Rattle.trees.proofs.Walk.{walk_solves}
 
 module _ (S : ℕ → Option Ty) (Frozen : ℕ → Type 0) where
   -- a run from equations with nothing solved

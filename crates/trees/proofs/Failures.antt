@@ -6,10 +6,10 @@ use Rattle.std.proofs.Math.Decide.{ℕ_discrete}
 use Rattle.trees.specs.Tree.{arr, Tree, lam, var, hol, nil, Sig, v_nil, v_cons, at, t_lam, t_con, t_var, t_hol, t_nil, t_cons, Pairs, Equates, PairsTyped, Fills, Leaves}
 use Rattle.trees.specs.Moves.{nothing, move_lam, move_expand, run_done, run_step, Walk, w_con, w_nil, w_kept, l_escape, l_occurs, l_frozen, l_con, l_first, Head, h_lam, h_nil, h_cons, h_con, h_var, h_hol, fails_clash, fails-walk, NoneFrozen}
 use Rattle.trees.specs.Update.{update}
-use Rattle.trees.specs.Leads.{run_trans}
-use Rattle.trees.specs.Read.{back, back_inverts}
-use Rattle.trees.specs.Theorems.{failed_has_no_filling}
-use Rattle.trees.specs.Examples.{i, S, a, f, holes, solved_by, other}
+use Rattle.trees.proofs.Leads.{run_trans}
+use Rattle.trees.proofs.Read.{back, back_inverts}
+use Rattle.trees.proofs.Theorems.{failed_has_no_filling}
+use Rattle.trees.proofs.Examples.{i, S, a, f, holes, solved_by, other}
 
 -- no typed filling that leaves the frozen holes as they are makes the equations equal
 abbrev NoFilling : (ℕ → Type 0) → Sig → Pairs → Type 0

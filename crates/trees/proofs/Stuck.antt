@@ -8,8 +8,8 @@ use Rattle.trees.specs.Partial.{pren_var_inv, pren_hol_inv}
 use Rattle.trees.specs.Filling.{map_m-nth, ren-itself}
 use Rattle.trees.specs.Size.{size-ren}
 use Rattle.trees.specs.Typing.{Declared, typed-holes}
-use Rattle.trees.specs.Leads.{declared_once}
-use Rattle.trees.specs.Read.{Owes}
+use Rattle.trees.proofs.Leads.{declared_once}
+use Rattle.trees.proofs.Read.{Owes}
 
 module _ (Frozen : ℕ → Type 0) where
   frozen_inst : (D : Sig) (θ : ℕ → Tree) → Leaves Frozen D θ → (h : ℕ) (xs : List ℕ) → Declared D h xs → Frozen h → inst θ (hol h xs) ≡ hol h xs

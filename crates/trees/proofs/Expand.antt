@@ -5,10 +5,13 @@ use Rattle.std.proofs.Math.Option.{Option, none, some}
 use Rattle.trees.specs.Tree.{Ty, base, Tree, lam, con, var, hol, nil, cons, lift, ren, nth, inst, Holes, Sig, at, HasTy, t_hol, FillsAt, Fills, itself}
 use Rattle.trees.specs.Moves.{Solutions, Keeps, Stamped, SolTyped}
 use Rattle.trees.specs.Statements.{alone, expand_at, Expansion}
-use Rattle.trees.specs.Filling.{Holes-map, Holes-both, inst-inst, inst_agree, upto-distinct, inst-itself}
-use Rattle.trees.specs.Typing.{vars_all, Declared, inst-typed, typed_scoped, typed-holes, fills_suits}
-use Rattle.trees.specs.Order.{Ranked, stamped_ranked}
-use Rattle.trees.specs.Leads.{declared_once}
+use Rattle.trees.specs.Filling.{Holes-map, Holes-both, inst_agree, upto-distinct, inst-itself}
+use Rattle.trees.proofs.Filling.{inst-inst}
+use Rattle.trees.specs.Typing.{vars_all, Declared, typed_scoped, typed-holes, fills_suits}
+use Rattle.trees.proofs.Typing.{inst-typed}
+use Rattle.trees.specs.Order.{Ranked}
+use Rattle.trees.proofs.Order.{stamped_ranked}
+use Rattle.trees.proofs.Leads.{declared_once}
 
 -- with a rank there is one expansion
 abbrev pub resolve : Sig → Solutions → ℕ → ℕ → Tree

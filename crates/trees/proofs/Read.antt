@@ -10,7 +10,7 @@ use Rattle.trees.specs.Filling.{pren_hol}
 use Rattle.trees.specs.Size.{size, size-ren}
 use Rattle.trees.specs.Narrow.{nth_inj, narrow_pruned}
 use Rattle.trees.specs.Typing.{At-lt, vars_nth, vars_length, in_scope, renames_reflects, Takes, takes-lift, Declared, typed-more, fills_scoped, hol_map_m}
-use Rattle.trees.specs.Leads.{declared_once, keeps_less, fills_less, move_leads}
+use Rattle.trees.proofs.Leads.{declared_once, keeps_less, fills_less, move_leads}
 
 -- the map that the walk begins with
 abbrev pub back : List ℕ → ℕ → Option ℕ
