@@ -15,7 +15,8 @@ use Rattle.rules.specs.Solve.{Refusal, admitted, refused, refusal, start, leaves
 use Rattle.laws.specs.Search.{lowest_nowhere}
 use Rattle.laws.specs.Sound.{Sound}
 use Rattle.invariants.specs.Admit.{Says, refusal_says}
-use Rattle.invariants.specs.Machine.{Ended, machine-ended}
+use Rattle.invariants.specs.Machine.{Ended}
+use Rattle.invariants.proofs.Machine.{machine-ended}
 use Rattle.invariants.specs.Start.{filled-length, records_room}
 use Rattle.promise.specs.Admitting.{admitted_is}
 use Rattle.promise.specs.Outcomes.{went}

@@ -16,7 +16,7 @@ use Rattle.rules.specs.Machine.{Pair as Waiting, Next, on, done, step, upcoming,
 use Rattle.invariants.specs.Floor.{Grown}
 use Rattle.invariants.specs.Copy.{Nobody}
 use Rattle.invariants.specs.Running.{Running, Stepped, ahead}
-use Rattle.invariants.specs.Turn.{step_grows}
+use Rattle.invariants.proofs.Turn.{step_grows}
 use Rattle.promise.specs.Known.{Known, known_step}
 use Rattle.rewrite.specs.LevelsLaws.{fuel}
 use Rattle.store.specs.Said.{store}

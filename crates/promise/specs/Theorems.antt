@@ -1,6 +1,6 @@
 -- DEMAND 3 holds of the rules of solving and showing, for every input.
 use Rattle.rules.specs.Solve.{solve}
-use Rattle.invariants.specs.Ends.{solve_answers}
+use Rattle.invariants.proofs.Ends.{solve_answers}
 use Rattle.promise.specs.Demand.{Demand3, ShowDemand}
 use Rattle.promise.specs.Solving.{solve_means}
 use Rattle.promise.specs.Order.{solve_order}

@@ -25,7 +25,7 @@ use Rattle.invariants.specs.Grow.{listed_of}
 use Rattle.invariants.specs.Input.{few_cells}
 use Rattle.invariants.specs.Start.{records_few, records_room, filled-below}
 use Rattle.invariants.specs.Admit.{Admitted, Says, refusal_says}
-use Rattle.invariants.specs.Machine.{machine_grows}
+use Rattle.invariants.proofs.Machine.{machine_grows}
 use Rattle.invariants.specs.Run.{Any}
 use Rattle.invariants.specs.Copy.{Nobody}
 use Rattle.promise.specs.Table.{constants, solution_of}

@@ -10,9 +10,9 @@ use Rattle.invariants.specs.Forms.{variables_few}
 use Rattle.invariants.specs.Floor.{Sub, Fine, Grows, Rooted}
 use Rattle.invariants.specs.Outside.{set-outside}
 use Rattle.invariants.specs.Push.{bind_grows}
-use Rattle.invariants.specs.Narrow.{settled_fine}
+use Rattle.invariants.proofs.Narrow.{settled_fine}
 use Rattle.invariants.specs.Places.{Low, positions_low}
-use Rattle.invariants.specs.Keep.{kept}
+use Rattle.invariants.proofs.Keep.{kept}
 
 -- the map at the start leads to positions below 16
 pub start_low : (ws : List ℕ) (l : ℕ) → length (elements ws (field_b ws l)) ≤ 16 → Low (to_positions 0 (variables ws l)) 16

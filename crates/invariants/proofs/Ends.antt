@@ -12,16 +12,18 @@ use Rattle.rules.specs.Solve.{admitted, refusal, start, solve}
 use Rattle.rules.specs.Show.{Shown, show}
 use Rattle.rules.specs.Text.{print_term, printed}
 use Rattle.invariants.specs.Floor.{Sub, Fine, Grows}
-use Rattle.invariants.specs.Copy.{Nobody, Expanded, expand_grows}
-use Rattle.invariants.specs.Assign.{assign_grows}
+use Rattle.invariants.specs.Copy.{Nobody, Expanded}
+use Rattle.invariants.proofs.Copy.{expand_grows}
+use Rattle.invariants.proofs.Assign.{assign_grows}
 use Rattle.invariants.specs.Running.{Running}
-use Rattle.invariants.specs.Falls.{steps-more}
-use Rattle.invariants.specs.Turn.{step_grows, lefts_low}
-use Rattle.invariants.specs.Run.{run_grows}
+use Rattle.invariants.proofs.Falls.{steps-more}
+use Rattle.invariants.proofs.Turn.{step_grows, lefts_low}
+use Rattle.invariants.proofs.Run.{run_grows}
 use Rattle.invariants.specs.Admit.{Admitted, refusal_says}
-use Rattle.invariants.specs.Machine.{machine-ended}
+use Rattle.invariants.proofs.Machine.{machine-ended}
 use Rattle.invariants.specs.Output.{ATerm}
-use Rattle.invariants.specs.Answers.{solve_low, Readable, show_says}
+use Rattle.invariants.specs.Answers.{Readable}
+use Rattle.invariants.proofs.Answers.{solve_low, show_says}
 use Rattle.invariants.specs.Printed.{printed_unrolls}
 
 -- step 1 ends, with every copy that it makes

@@ -12,7 +12,8 @@ use Rattle.invariants.specs.Floor.{Sub, All, limit, Solved, Fine, Ext, Grown, Gr
 use Rattle.invariants.specs.Outside.{set-outside, unsolved}
 use Rattle.invariants.specs.Grow.{listed_of, all_map, tag-kept}
 use Rattle.invariants.specs.Push.{ext_trans, bind_grows}
-use Rattle.invariants.specs.Write.{Written, Same, Chain, push_hole, cells_grow, occurrence_grows}
+use Rattle.invariants.specs.Write.{Written, Same, Chain}
+use Rattle.invariants.proofs.Write.{push_hole, cells_grow, occurrence_grows}
 
 -- a solution written from record b on settles a hole that no record from b on mentions
 module _ (R n b : ℕ) (home : ℕ → ℕ) (s : Store) (h t : ℕ) (f : Fine R n home s) (lt : h < s.used) (nb : n ≤ b) (root : Sub s.words home b s.used t)

@@ -19,12 +19,13 @@ use Rattle.invariants.specs.Outside.{fine_stopped}
 use Rattle.invariants.specs.Grow.{all_map, sub_less, args_less, sub-kept}
 use Rattle.invariants.specs.Push.{ext_refl, bind_grows, map_grows}
 use Rattle.invariants.specs.Write.{stays}
-use Rattle.invariants.specs.Narrow.{Fresh, narrow_grows, grows_weaken}
-use Rattle.invariants.specs.Copy.{Nobody, Expanded, expand_grows}
-use Rattle.invariants.specs.Assign.{assign_grows}
+use Rattle.invariants.proofs.Narrow.{Fresh, narrow_grows, grows_weaken}
+use Rattle.invariants.specs.Copy.{Nobody, Expanded}
+use Rattle.invariants.proofs.Copy.{expand_grows}
+use Rattle.invariants.proofs.Assign.{assign_grows}
 use Rattle.invariants.specs.Pairs.{sides-kept, all_append, zip-sides, agreeing_few}
 use Rattle.invariants.specs.Running.{Sides, Running, Stepped, weights, ahead}
-use Rattle.invariants.specs.Falls.{weight_lower, weights-append, zip_lower, lighter, dropped, written}
+use Rattle.invariants.proofs.Falls.{weight_lower, weights-append, zip_lower, lighter, dropped, written}
 
 -- a tag that is tested
 -- the pair in hand, after step 1

@@ -15,7 +15,8 @@ use Rattle.invariants.specs.Floor.{Sub, All, limit, Rule, Fine, Ext, Grows}
 use Rattle.invariants.specs.Outside.{fine_stopped}
 use Rattle.invariants.specs.Grow.{all_map, sub_less, sub-kept}
 use Rattle.invariants.specs.Push.{bind_grows}
-use Rattle.invariants.specs.Write.{Written, WrittenList, none_written, same_off, grows_since, stays, push-head, push_lam, push_cell}
+use Rattle.invariants.specs.Write.{Written, WrittenList, none_written, same_off, grows_since, stays}
+use Rattle.invariants.proofs.Write.{push-head, push_lam, push_cell}
 use Rattle.invariants.specs.Places.{Low, place_low}
 
 -- a writer that bars these holes, and writes terms whose homes are from b on, whose roots are not older than lo, and whose variables are at most `most`.
