@@ -32,8 +32,9 @@ use Rattle.promise.specs.Table.{constants, solution_of}
 use Rattle.promise.specs.Demand.{holes_in}
 use Rattle.promise.specs.Outcomes.{went}
 use Rattle.promise.specs.Admitting.{admitted_is}
-use Rattle.promise.specs.Ending.{Final as Ran, final_good, machine_ends}
-use Rattle.promise.specs.ShowKnown.{hole_in_order}
+use Rattle.promise.specs.Ending.{Final as Ran}
+use Rattle.promise.proofs.Ending.{final_good, machine_ends}
+use Rattle.promise.proofs.ShowKnown.{hole_in_order}
 use Rattle.checks.specs.declared.Asked.{Asked}
 use Rattle.checks.specs.declared.Asked.TheVariants.{Record as Asking}
 use Rattle.checks.specs.Refusing.{asks, is_hole}

@@ -20,8 +20,10 @@ use Rattle.promise.specs.Table.{constants, holes, sides, solution_of, filling}
 use Rattle.promise.specs.Demand.{TypedPatterns, Unifies, MostGeneral, Means, holes_in}
 use Rattle.promise.specs.Outcomes.{Ends, ended, failed, unsaid}
 use Rattle.promise.specs.Waiting.{RunFails, FailsBy}
-use Rattle.promise.specs.Admitting.{Admitted, Refuses, admits, short, breaks, ill, offends, refusal_is, admitted_typed, typed_nowhere, typed_clean}
-use Rattle.promise.specs.Ending.{Final, final_expands, machine_ends, sides-typed}
+use Rattle.promise.specs.Admitting.{Admitted, Refuses, admits, short, breaks, ill, offends, refusal_is, admitted_typed}
+use Rattle.promise.proofs.Admitting.{typed_nowhere, typed_clean}
+use Rattle.promise.specs.Ending.{Final}
+use Rattle.promise.proofs.Ending.{final_expands, machine_ends, sides-typed}
 
 found_not : (r : ℕ) → At r ≡ Nowhere → ⊥
 found_not r e = let z : ◌≡◌ {A = ℕ} 0 1 = cc in omega arith

@@ -16,7 +16,7 @@ use Rattle.rules.specs.All.{everything}
 use Rattle.rules.specs.Table.{Example, example, given, told, examples, ◌·◌}
 use Rattle.promise.specs.Demand.{Solver, Demand3}
 use Rattle.promise.specs.Examples.{P}
-use Rattle.promise.specs.Wrong.{closed, refutes, stopped}
+use Rattle.promise.proofs.Wrong.{closed, refutes, stopped}
 
 -- a machine that makes these steps
 abbrev pub Step : Type 0

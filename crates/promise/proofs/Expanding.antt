@@ -16,7 +16,7 @@ use Rattle.trees.specs.Typing.{typed_scoped, typed-holes}
 use Rattle.trees.proofs.Leads.{declared_once}
 use Rattle.promise.specs.Reading.{one, Reads, r_lam, r_con, r_var, r_hol, listed-variables}
 use Rattle.promise.specs.Outcomes.{Ends, ended, bind_ends, map_ends, unsaid, OnlyFull, Appends, appends_refl, appends_trans}
-use Rattle.promise.specs.Copying.{copy-solution}
+use Rattle.promise.proofs.Copying.{copy-solution}
 use Rattle.promise.specs.State.{Holds, solved_some, solved_none, declared_low, holds_appends}
 use Rattle.promise.specs.Waiting.{Runs, move, then, run_good}
 

@@ -12,7 +12,7 @@ use Rattle.trees.proofs.Leads.{fills_less}
 use Rattle.promise.specs.Table.{constants, holes, sides, filling, type_at, spine, tree_at, solution_of, expanded}
 use Rattle.promise.specs.Demand.{Solver, Means, Demand3, Demand2}
 use Rattle.promise.specs.Examples.{table, count, tried, P}
-use Rattle.promise.specs.Solving.{solve_means}
+use Rattle.promise.proofs.Solving.{solve_means}
 
 -- a table that is left behind as the machine starts, with this reply
 abbrev untouched : List ℕ → List ℕ → List ℕ → ℕ → ℕ → ℕ → Behind

@@ -27,7 +27,7 @@ use Rattle.promise.specs.Maps.{place, place_inverts}
 use Rattle.promise.specs.State.{Later, Holds, holds-settle}
 use Rattle.promise.specs.Narrowing.{Narrowed, narrow_ends}
 use Rattle.promise.specs.Walked.{Walked, LostBy, Starts}
-use Rattle.promise.specs.Walking.{walk_ends}
+use Rattle.promise.proofs.Walking.{walk_ends}
 use Rattle.promise.specs.Agreeing.{agreeing-below, agreeing-distinct, agreeing-all, agreeing_covers, agreeing_full}
 use Rattle.promise.specs.Waiting.{PairsRead, pairs_later, Runs, move, then, run_good, FailsBy, fails-here, fails_full, fails_after, Stepped, Steps, quiet}
 

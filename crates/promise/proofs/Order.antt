@@ -23,7 +23,7 @@ use Rattle.promise.specs.Readable.{type_at, hole_at}
 use Rattle.promise.specs.TableLaws.{type_reads, tree_reads, constants_some, constants_none, holes_some, holes_none}
 use Rattle.promise.specs.Admitting.{Admitted, low}
 use Rattle.promise.specs.Starting.{equations_same, pairs-typed}
-use Rattle.promise.specs.Solving.{solve_means, solve_final}
+use Rattle.promise.proofs.Solving.{solve_means, solve_final}
 use Rattle.laws.specs.Sound.{constant_field}
 
 from_split : (i j m : ℕ) → from i (j + m) ≡ from i j ++ from (i + j) m

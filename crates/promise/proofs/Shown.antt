@@ -25,10 +25,11 @@ use Rattle.promise.specs.Writing.{Wrote}
 use Rattle.promise.specs.TableLaws.{tree_reads}
 use Rattle.promise.specs.Declares.{holes-read}
 use Rattle.promise.specs.Admitting.{low}
-use Rattle.promise.specs.Ending.{Final, final_good, final_expands}
-use Rattle.promise.specs.Solving.{solve_means, behind, solve_final}
+use Rattle.promise.specs.Ending.{Final}
+use Rattle.promise.proofs.Ending.{final_good, final_expands}
+use Rattle.promise.proofs.Solving.{solve_means, behind, solve_final}
 use Rattle.promise.specs.Showing.{answer_ends}
-use Rattle.promise.specs.Printing.{tree_printed}
+use Rattle.promise.proofs.Printing.{tree_printed}
 
 -- the output of show
 blank-fits : (os ss : List ℕ) → Fits (records os) (record { words = filled 0 (4 * records os) 0 os; solutions = ss; used = 0 })

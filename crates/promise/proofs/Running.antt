@@ -11,8 +11,8 @@ use Rattle.promise.specs.Reading.{one, Reads, reads_later}
 use Rattle.promise.specs.Outcomes.{Ends, ended, bind_ends, map_ends, unsaid}
 use Rattle.promise.specs.State.{grew_later, Holds, holds_appends}
 use Rattle.promise.specs.Waiting.{PairsRead, p_nil, p_cons, pairs_later, Runs, move, then, run_good, FailsBy, fails_full, fails_after, Steps}
-use Rattle.promise.specs.Expanding.{Expanded, expand_ends}
-use Rattle.promise.specs.Meeting.{meet_ends}
+use Rattle.promise.proofs.Expanding.{Expanded, expand_ends}
+use Rattle.promise.proofs.Meeting.{meet_ends}
 
 module _ (S : ℕ → Option Ty) (R C : ℕ) where
   pub step_ends : (D : Sig) (σ : Solutions) (a b : Tree) (ps : Pairs) (q : List Pair) (l r : ℕ) (s : Store) → Holds R s D σ → Good S D σ ((a, b) ∷ ps)
