@@ -11,7 +11,8 @@ use Rattle.promise.specs.Reading.{Same}
 use Rattle.legal.specs.Stay.{tag_same, a_same, type_same, elements_same}
 use Rattle.legal.specs.Cells.{some_types, some_terms}
 use Rattle.legal.specs.Sane.{Sane, legal, Kept, kept_refl, kept_trans, added, added_same, tag_is, a_is, b_is}
-use Rattle.legal.specs.Added.{Root, Chain, no_chain, root_kept, chain_since, variable_added, occurrence-added, cell_added}
+use Rattle.legal.specs.Added.{Root, Chain, no_chain, chain_since}
+use Rattle.legal.proofs.Added.{root_kept, variable_added, occurrence-added, cell_added}
 use Rattle.legal.specs.Ran.{Ran, ran_bind, ran_goes, ran_push}
 
 -- cells for types

@@ -19,10 +19,10 @@ use Rattle.promise.specs.Outcomes.{unsaid}
 use Rattle.legal.specs.Reading.{arity, all_both, arguments_terms}
 use Rattle.legal.specs.Scope.{Scopes, scope_level}
 use Rattle.legal.specs.Sane.{Sane, legal, Kept}
-use Rattle.legal.specs.Narrow.{narrow_ran}
+use Rattle.legal.proofs.Narrow.{narrow_ran}
 use Rattle.legal.specs.Ran.{Ran, ran_bind, ran_map, ran_goes, ran_fail}
-use Rattle.legal.specs.Copy.{head_of, Side, side-kept, expand_ran}
-use Rattle.legal.specs.Walk.{assign_ran}
+use Rattle.legal.proofs.Copy.{head_of, Side, side-kept, expand_ran}
+use Rattle.legal.proofs.Walk.{assign_ran}
 
 -- both sides of a pair
 pub record Sides (s : Store) (p : Pair) : Type 0 where

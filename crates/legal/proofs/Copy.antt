@@ -20,12 +20,13 @@ use Rattle.promise.specs.Outcomes.{unsaid}
 use Rattle.legal.specs.Reading.{arity, arity_same, arity_few}
 use Rattle.legal.specs.Scope.{Scopes, scope_level, Part, part_on}
 use Rattle.legal.specs.Sane.{Solution, Sane, legal, Kept, kept_refl, kept_trans}
-use Rattle.legal.specs.Narrow.{occurrence-part}
-use Rattle.legal.specs.Lists.{Occurrence, occurrence_ran}
+use Rattle.legal.proofs.Narrow.{occurrence-part}
+use Rattle.legal.proofs.Lists.{Occurrence, occurrence_ran}
 use Rattle.legal.specs.Ran.{Between, Ran, ran_bind, ran_map, ran_goes}
 use Rattle.legal.specs.Places.{Total, followed, follow-all, variables_lead, variables_total}
-use Rattle.legal.specs.Parts.{Wrote, Source, Small, Writes, WritesHole}
-use Rattle.legal.specs.Rewriting.{term_ran}
+use Rattle.legal.specs.Parts.{Wrote, Small}
+use Rattle.legal.proofs.Parts.{Source, Writes, WritesHole}
+use Rattle.legal.proofs.Rewriting.{term_ran}
 
 -- the hole that occurs at r
 pub record Head (s : Store) (r : ℕ) : Type 0 where

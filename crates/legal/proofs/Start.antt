@@ -26,8 +26,8 @@ use Rattle.legal.specs.Uses.{those-all}
 use Rattle.legal.specs.Stay.{below_all, term_same, sound_same}
 use Rattle.legal.specs.Sane.{Sane}
 use Rattle.legal.specs.Ran.{Ran, ran_bind}
-use Rattle.legal.specs.Copy.{Side}
-use Rattle.legal.specs.Turn.{Sides, join_ran, run_ran}
+use Rattle.legal.proofs.Copy.{Side}
+use Rattle.legal.proofs.Turn.{Sides, join_ran, run_ran}
 use Rattle.legal.specs.Typed.{typed_scope}
 
 all_mapped : (P : Pair → Type 0) (g : ℕ → Pair) (xs : List ℕ) → All (λ x. P (g x)) xs → All P (map g xs)

@@ -19,9 +19,10 @@ use Rattle.legal.specs.Cells.{some_types}
 use Rattle.legal.specs.Reading.{arity, arity_same, arity_few, context_types}
 use Rattle.legal.specs.Scope.{hole_scope, Part}
 use Rattle.legal.specs.Sane.{Solution, Sane, legal, Kept, kept_trans, added, added_same, tag_is, a_is}
-use Rattle.legal.specs.Added.{Chain, hole_added}
+use Rattle.legal.specs.Added.{Chain}
+use Rattle.legal.proofs.Added.{hole_added}
 use Rattle.legal.specs.Ran.{Ran, ran_bind, ran_push}
-use Rattle.legal.specs.Lists.{cells_ran, Occurrence, occurrence_ran}
+use Rattle.legal.proofs.Lists.{cells_ran, Occurrence, occurrence_ran}
 
 -- an occurrence is in scope where its variables are, and it has as many as its hole takes
 pub occurrence-part : {R : ℕ} {s s₁ : Store} {h x : ℕ} {vs : List ℕ} (c b : ℕ) → Occurrence R s s₁ h x vs → All (λ v. v < b) vs → length vs ≡ arity s₁.words h → b ≤ c → Part s₁ c b x

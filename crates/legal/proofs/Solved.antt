@@ -1,16 +1,14 @@
--- After solving with answer 0 the records in use form a legal table again, within the room, so that they can be written to a file.
+-- After solving with answer 0 the records in use form a legal table again, within the room.
 use Rattle.std.specs.Prelude.{ℕ, ◌*◌, ◌-◌, ◌≤◌, ◌≡◌, refl, List, true, not, length}
-use Rattle.std.proofs.Common.{◌∙◌, arith, le-ltb}
+use Rattle.std.proofs.Common.{◌∙◌, arith}
 use Rattle.rules.specs.declared.Failure.{Failure}
 use Rattle.rules.specs.declared.Failure.TheVariants.{Clash, Escape, Occurs, QueueFull, TableFull}
 use Rattle.rules.specs.declared.Found.TheVariants.{Nowhere}
-use Rattle.rules.specs.Lists.{either}
 use Rattle.rules.specs.Words.{NONE}
-use Rattle.rules.specs.Answers.{number, reply, records, pairs}
+use Rattle.rules.specs.Answers.{number, records, pairs}
 use Rattle.rules.specs.Records.{keeps, broken}
 use Rattle.rules.specs.Store.{Store, Out, goes, fails, spent}
 use Rattle.rules.specs.Machine.{Pair, machine}
-use Rattle.rules.specs.FileWrite.{write}
 use Rattle.rules.specs.Solve.{Refusal, admitted, refused, refusal, start, leaves, solve}
 use Rattle.laws.specs.Search.{lowest_nowhere}
 use Rattle.laws.specs.Sound.{Sound}
@@ -22,7 +20,7 @@ use Rattle.promise.specs.Admitting.{admitted_is}
 use Rattle.promise.specs.Outcomes.{went}
 use Rattle.legal.specs.Sane.{Sane}
 use Rattle.legal.specs.Ran.{Ran}
-use Rattle.legal.specs.Start.{machine_ran}
+use Rattle.legal.proofs.Start.{machine_ran}
 
 sound-broken : (ws : List ℕ) (n : ℕ) → Sound ws n → broken ws n ≡ Nowhere
 unfolding broken
@@ -86,12 +84,3 @@ solved-length ws ss qs n = said (refusal true ws ss n) refl (refusal_says true w
 pub solved-records : (ws ss qs : List ℕ) (n : ℕ) → records (solve ws ss qs n).table ≡ records ws
 unfolding records
 solved-records ws ss qs n = rw (solved-length ws ss qs n)
-
--- a solved table can be handed on: its records in use, up to 2,048 of them, are written to any file that holds them
-pub solved-written : (ws ss qs : List ℕ) (n : ℕ) (bs : List ℕ) → (solve ws ss qs n).said.answer ≡ 0 → (solve ws ss qs n).said.used ≤ 2048 → 14 * (solve ws ss qs n).said.used ≤ length bs
-    → (write (solve ws ss qs n).table (solve ws ss qs n).said.used bs).said ≡ reply 0 0 (solve ws ss qs n).said.used
-unfolding write either
-solved-written ws ss qs n bs e few room =
-    let u = (solve ws ss qs n).said.used in
-    let held : u ≤ records (solve ws ss qs n).table = rw (solved-records ws ss qs n) (solved-within ws ss qs n e) in
-    rw (le-ltb _ _ held, le-ltb _ _ few, solved_legal ws ss qs n e, le-ltb _ _ room, write)

@@ -17,10 +17,12 @@ use Rattle.legal.specs.Stay.{tag_same, elements_same}
 use Rattle.legal.specs.Reading.{term_tag, all_both, arguments_terms, few_arguments}
 use Rattle.legal.specs.Scope.{Scopes, scope_level, lambda_scope, applied_scope, Part, part_on}
 use Rattle.legal.specs.Sane.{legal, added, added_same, tag_is, a_is, b_is}
-use Rattle.legal.specs.Added.{Root, lambda_added, constant_added, variable_added}
+use Rattle.legal.specs.Added.{Root}
+use Rattle.legal.proofs.Added.{lambda_added, constant_added, variable_added}
 use Rattle.legal.specs.Ran.{Ran, ran_bind, ran_map, ran_fail, ran_push}
 use Rattle.legal.specs.Places.{place-below}
-use Rattle.legal.specs.Parts.{Wrote, WroteList, Source, Sources, Small, Writes, WritesHole, all_ran}
+use Rattle.legal.specs.Parts.{Wrote, WroteList, Small}
+use Rattle.legal.proofs.Parts.{Source, Sources, Writes, WritesHole, all_ran}
 
 form_other : (ws : List ℕ) (r : ℕ) → (tag ws r ≡ LA → ⊥) → (tag ws r ≡ CA → ⊥) → (tag ws r ≡ VA → ⊥) → form ws r ≡ hole
 unfolding form has

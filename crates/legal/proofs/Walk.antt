@@ -20,13 +20,14 @@ use Rattle.legal.specs.Reading.{arity, arity_same, arity_low, arity_few}
 use Rattle.legal.specs.Scope.{Part}
 use Rattle.legal.specs.Sane.{Sane, legal, Kept, kept_trans}
 use Rattle.legal.specs.Added.{root_since}
-use Rattle.legal.specs.Narrow.{occurrence-part, settle-kept, narrow_ran}
-use Rattle.legal.specs.Lists.{occurrence_ran}
+use Rattle.legal.proofs.Narrow.{occurrence-part, settle-kept, narrow_ran}
+use Rattle.legal.proofs.Lists.{occurrence_ran}
 use Rattle.legal.specs.Ran.{Between, Ran, ran_bind, ran_map, ran_fail}
 use Rattle.legal.specs.Places.{Followed, followed, positions_lead}
-use Rattle.legal.specs.Parts.{Wrote, Source, Small, Writes, WritesHole}
-use Rattle.legal.specs.Rewriting.{term_ran}
-use Rattle.legal.specs.Copy.{head_of, Side, solution-of}
+use Rattle.legal.specs.Parts.{Wrote, Small}
+use Rattle.legal.proofs.Parts.{Source, Writes, WritesHole}
+use Rattle.legal.proofs.Rewriting.{term_ran}
+use Rattle.legal.proofs.Copy.{head_of, Side, solution-of}
 
 -- the map of the walk may lead nowhere
 abbrev Partial : Map → ℕ → Type 0
