@@ -1,22 +1,21 @@
--- One record by itself: with lower fields of the right kinds, of which none that counts is in use, it keeps the rules.
-use Rattle.std.specs.Prelude.{ℕ, ◌<◌, ◌≤◌, Bool, true, false, not, ◌⊎◌, eqb, leb}
+-- One record by itself: what it is to have the right shape and references, and that lower fields of the right kinds make it so.
+use Rattle.std.specs.Prelude.{ℕ, ◌<◌, ◌≤◌, Bool, true, false, ◌⊎◌, eqb}
 use Rattle.std.proofs.Math.Path.{◌≡◌, refl, ap}
 use Rattle.std.proofs.Common.{◌∙◌, inl, inr, leb-true, lt-ltb, eq-eqb, ne_eqb}
 use mathlib.Core.List.{List, [], ◌∷◌, ◌++◌}
 use native.Mathlib.Omega.{arith}
 use Rattle.std.proofs.Math.ListN.{get_or}
-use Rattle.std.proofs.lemmas.Bool.{lt-leb}
-use Rattle.rules.specs.Lists.{both, either, all, any, among, distinct, those, below}
+use Rattle.rules.specs.Lists.{both, either, any, among, distinct, those}
 use Rattle.rules.specs.Words.{NONE, HO, CE, LA, CA, VA, HA, BT, KO, tag, field_a, field_b, field_c, is_type, is_term}
 use Rattle.rules.specs.Records.{Field, Shape, never, nil, any-number, small, type as a_type, base as a_base, constant as a_constant, hole as a_hole, term as a_term, types as some_types, terms as some_terms}
-use Rattle.rules.specs.Records.{element as an_element, rest as a_rest, shapes, shape, fits, shaped, listed, new_type, first_cell, reference, uses, first_use, keeps}
-use Rattle.laws.specs.Tests.{both_true, both_no, both_yes, either_left, has_yes}
+use Rattle.rules.specs.Records.{element as an_element, rest as a_rest, shapes, shape, fits, shaped, listed, first_cell, reference, uses}
+use Rattle.laws.specs.Tests.{both_true, both_yes, either_left, has_yes}
 use Rattle.laws.specs.Members.{Begins}
 use Rattle.invariants.specs.Floor.{All}
 use Rattle.invariants.specs.Grow.{all_map}
 use Rattle.invariants.specs.Pairs.{all_append}
 use Rattle.legal.specs.Uses.{those-all, first-all}
-use Rattle.legal.specs.Stay.{begins_list, no_cell, below_all}
+use Rattle.legal.specs.Stay.{begins_list, no_cell}
 
 -- no record below n refers to x
 abbrev pub Free : List ℕ → ℕ → ℕ → Type 0
@@ -50,11 +49,6 @@ reference_single some_types x = first_single x
 reference_single some_terms x = first_single x
 reference_single an_element x = inr refl
 reference_single a_rest x = first_single x
-
-among_no : (xs : List ℕ) (x : ℕ) → All (λ y. y ≡ x → ⊥) xs → among xs x ≡ false
-unfolding among any either
-among_no [] x h = refl
-among_no (y ∷ ys) x h = rw (ne_eqb _ _ h.0) (among_no ys x h.1)
 
 -- so a record refers to no record twice, if its two fields refer to different ones
 distinct-one : (ok : ℕ → Bool) (x : ℕ) → distinct (those ok (x ∷ [])) ≡ true
@@ -92,32 +86,6 @@ pub record Right (ws : List ℕ) (r : ℕ) (Q : ℕ → Type 0) : Type 0 where
   pub no_type : 3 ≤ tag ws r
   pub once : distinct (uses ws r) ≡ true
   pub used : All Q (uses ws r)
-
-all_yes : (ok : ℕ → Bool) (xs : List ℕ) → All (λ x. ok x ≡ true) xs → all ok xs ≡ true
-unfolding all both
-all_yes ok [] h = refl
-all_yes ok (x ∷ xs) h = rw h.0 (all_yes ok xs h.1)
-
--- if what it refers to is free, it is its first use
-free-first : (ws : List ℕ) (r : ℕ) → distinct (uses ws r) ≡ true → All (Free ws r) (uses ws r) → first_use ws r ≡ true
-unfolding first_use
-free-first ws r d h = both_yes _ _ d (all_yes (λ x. all (λ j. not (among (uses ws j) x)) (below r)) (uses ws r)
-    (all_map (Free ws r) (λ x. all (λ j. not (among (uses ws j) x)) (below r) ≡ true) one (uses ws r) h))
-  where
-    one : (x : ℕ) → Free ws r x → all (λ j. not (among (uses ws j) x)) (below r) ≡ true
-    one x f = all_yes (λ j. not (among (uses ws j) x)) (below r)
-        (all_map (λ j. j < r) (λ j. not (among (uses ws j) x) ≡ true) (λ j l. rw (among_no (uses ws j) x (f j l))) (below r) (below_all r))
-
--- it is no type, so that it equals none
-untyped : (ws : List ℕ) (r : ℕ) → 3 ≤ tag ws r → is_type ws r ≡ false
-unfolding is_type
-untyped ws r h = rw (lt-leb (tag ws r) 2 h) (both_no (leb 1 (tag ws r)))
-
--- and it keeps the rules
-pub right_keeps : (ws : List ℕ) (r : ℕ) → Right ws r (Free ws r) → keeps ws r ≡ true
-unfolding keeps new_type
-right_keeps ws r h =
-    both_yes _ _ h.shaped_so (both_yes _ _ h.listed_so (both_yes _ _ (either_left _ _ (let z = untyped ws r h.no_type in rw z)) (free-first ws r h.once h.used)))
 
 -- what counts among references: tags 5 to 9
 abbrev pub Counts : List ℕ → (ℕ → Type 0) → ℕ → Type 0

@@ -1,23 +1,23 @@
--- A store whose records keep the rules and whose solutions are terms in scope; what a part of the machine that appends records keeps of it.
-use Rattle.std.specs.Prelude.{ℕ, suc, ◌+◌, ◌*◌, ◌<◌, ◌≤◌, ◌≡◌, List, true, get_or, set}
-use Rattle.std.proofs.Common.{◌∙◌, arith, le_refl, le_trans}
+-- A store whose records keep the rules and whose solutions are terms in scope, and what is kept of it.
+use Rattle.std.specs.Prelude.{ℕ, suc, ◌+◌, ◌*◌, ◌<◌, ◌≤◌, ◌≡◌, List, get_or, set}
+use Rattle.std.proofs.Common.{arith, le_refl, le_trans}
 use Rattle.std.proofs.Math.Decide.{dec_lt}
 use Rattle.std.proofs.Math.ListN.{length, length-set}
 use Rattle.std.proofs.Math.Seq.{get_or-set_same}
 use Rattle.rules.specs.Words.{NONE, HO, tag, field_a, field_b, field_c}
-use Rattle.rules.specs.Records.{uses, keeps}
+use Rattle.rules.specs.Records.{uses}
 use Rattle.rules.specs.Store.{Store, put}
 use Rattle.laws.specs.Sound.{Sound}
 use Rattle.laws.specs.Members.{Legal}
 use Rattle.invariants.specs.Floor.{All}
 use Rattle.invariants.specs.Grow.{all_map}
-use Rattle.invariants.specs.Push.{put-length, put-kept, put-tag, put_a, put_b}
+use Rattle.invariants.specs.Push.{put-kept, put-tag, put_a, put_b}
 use Rattle.promise.specs.Reading.{Same, same_refl, same_trans}
 use Rattle.legal.specs.Uses.{uses_low, uses_same}
-use Rattle.legal.specs.Stay.{tag_same, sound_same}
-use Rattle.legal.specs.Right.{Free, Right, right_keeps}
-use Rattle.legal.specs.Reading.{arity, arity_same}
-use Rattle.legal.specs.Scope.{Part, part_on}
+use Rattle.legal.specs.Stay.{sound_same}
+use Rattle.legal.specs.Right.{Free}
+use Rattle.legal.specs.Reading.{arity}
+use Rattle.legal.specs.Scope.{Part}
 
 -- hole h is solved by a term in scope under its context
 pub record Solution (s : Store) (h : ℕ) : Type 0 where
@@ -98,46 +98,3 @@ module _ {R : ℕ} {s : Store} (t a b : ℕ) (i : Sane R s) (lt : s.used < R) wh
 
   pub free-added : (x : ℕ) → Free s.words s.used x → Free (added s t a b).words s.used x
   free-added x f j l = rw (uses_same s.words s.used i.sound j l (added s t a b).words added_same) (f j l)
-
-  -- a right record, all of whose references that count are free and not older than s₀
-  pub append : (s₀ : Store) → Kept R s₀ s → Right (added s t a b).words s.used (λ x. (s₀.used ≤ x) × Free (added s t a b).words s.used x) → Kept R s₀ (added s t a b)
-  append s₀ k r =
-      record {
-        sane = record {
-          room = rw (put-length s.words s.used t a b) i.room;
-          held = i.held;
-          few = i.few;
-          within = omega arith;
-          sound = λ j l. now j (dec_lt j s.used) l;
-          sols = λ h l n. solution h (i.sols h l n);
-        };
-        grown = let g = k.grown in omega arith;
-        same = same_trans k.grown k.same added_same;
-        own = λ j x y. own j x y (dec_lt j s.used);
-      }
-    where
-      ws₁ : List ℕ
-      ws₁ = (added s t a b).words
-
-      free : Right ws₁ s.used (Free ws₁ s.used)
-      free = record { shaped_so = r.shaped_so; listed_so = r.listed_so; no_type = r.no_type; once = r.once; used = all_map (λ x. (s₀.used ≤ x) × Free ws₁ s.used x) (Free ws₁ s.used) (λ x p. p.1) (uses ws₁ s.used) r.used }
-
-      now : (j : ℕ) → Dec (j < s.used) → j < s.used + 1 → keeps ws₁ j ≡ true
-      now j (yes l) h = old-sound j l
-      now j (no l) h = let z : j ≡ s.used = omega arith in rw z (right_keeps ws₁ s.used free)
-
-      solution : (h : ℕ) → Solution s h → Solution (added s t a b) h
-      solution h o =
-          let x = o.hole in
-          record {
-            hole = omega arith;
-            is = tag_same s.words ws₁ s.used (legal i) added_same h x ∙ o.is;
-            cap = o.cap;
-            part = rw (arity_same s.words s.used (legal i) ws₁ added_same h x o.is) (part_on o.cap o.cap (arity s.words h) (get_or s.solutions h NONE) (legal i) added_same (omega arith) (le_refl _) o.part);
-          }
-
-      own : (j : ℕ) → s₀.used ≤ j → j < s.used + 1 → Dec (j < s.used) → All (λ x. s₀.used ≤ x) (uses ws₁ j)
-      own j x y (yes l) = rw (uses_same s.words s.used i.sound j l ws₁ added_same) (k.own j x l)
-      own j x y (no l) =
-          let z : j ≡ s.used = omega arith in
-          rw z (all_map (λ x. (s₀.used ≤ x) × Free ws₁ s.used x) (λ x. s₀.used ≤ x) (λ x p. p.0) (uses ws₁ s.used) r.used)

@@ -17,7 +17,8 @@ use Rattle.rules.specs.Text.{reply_line, hole_line}
 use Rattle.laws.specs.Tests.{both_true}
 use Rattle.invariants.specs.Floor.{Term as ATerm}
 use Rattle.invariants.specs.Output.{Outputs}
-use Rattle.invariants.specs.Answers.{Readable, Answers, shows_answers}
+use Rattle.invariants.specs.Answers.{Readable, Answers}
+use Rattle.invariants.proofs.Answers.{shows_answers}
 use Rattle.invariants.specs.Length.{decimal_short, printed-length}
 use Rattle.store.specs.Said.{store}
 use Rattle.solver.specs.Answering.{Answerable, Writes}

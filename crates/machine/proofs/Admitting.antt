@@ -11,7 +11,7 @@ use Rattle.rules.specs.Lists.{those, from, below}
 use Rattle.rules.specs.Answers.{pairs}
 use Rattle.rules.specs.Solve.{start}
 use Rattle.invariants.specs.Start.{records_few, records_room, filled-below, start_running}
-use Rattle.promise.specs.Known.{known_start}
+use Rattle.promise.proofs.Known.{known_start}
 use Rattle.store.specs.Said.{store}
 use Rattle.store.specs.Clearing.{Clearing, Cleared}
 use Rattle.store.specs.ClearingLaws.{clearing_on}

@@ -14,7 +14,7 @@ use Rattle.rules.specs.Store.{goes, fails}
 use Rattle.rules.specs.Machine.{machine}
 use Rattle.rules.specs.Solve.{admitted, filled, start, emptied, leaves}
 use Rattle.invariants.specs.Floor.{Stopped, Grows}
-use Rattle.invariants.specs.Machine.{machine_grows}
+use Rattle.invariants.proofs.Machine.{machine_grows}
 use Rattle.invariants.specs.Run.{Any}
 use Rattle.invariants.specs.Copy.{Nobody}
 use Rattle.store.specs.Said.{store}

@@ -16,8 +16,8 @@ use Rattle.rules.specs.Words.{EQ, has}
 use Rattle.rules.specs.Store.{fail, ◌>>=◌}
 use Rattle.rules.specs.Machine.{join, steps, equations, machine}
 use Rattle.laws.specs.Noted.{noted_member}
-use Rattle.invariants.specs.Falls.{steps-more}
-use Rattle.invariants.specs.Turn.{lefts_low}
+use Rattle.invariants.proofs.Falls.{steps-more}
+use Rattle.invariants.proofs.Turn.{lefts_low}
 use Rattle.store.specs.Said.{store}
 use Rattle.queue.specs.Ring.{Fine, view, Queued, Front, Some, Leaves, front_of, no_pair}
 use Rattle.queue.specs.RingLaws.{view_none, fine_front, fine_some, left-view, left_fine}

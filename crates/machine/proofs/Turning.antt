@@ -16,8 +16,9 @@ use Rattle.rules.specs.Machine.{Pair as Waiting, Next, on, done, step, upcoming,
 use Rattle.invariants.specs.Floor.{Grown}
 use Rattle.invariants.specs.Copy.{Nobody}
 use Rattle.invariants.specs.Running.{Running, Stepped, ahead}
-use Rattle.invariants.specs.Turn.{step_grows}
-use Rattle.promise.specs.Known.{Known, known_step}
+use Rattle.invariants.proofs.Turn.{step_grows}
+use Rattle.promise.specs.Known.{Known}
+use Rattle.promise.proofs.Known.{known_step}
 use Rattle.rewrite.specs.LevelsLaws.{fuel}
 use Rattle.store.specs.Said.{store}
 use Rattle.queue.specs.Ring.{Fine, view, Leaves, front_of}

@@ -1,6 +1,6 @@
--- What comes before the machine: past answers 4 and 5, a table is admitted exactly where every equation's sides are typed patterns at its type.
+-- What comes before the machine: what an admitted table is, and that past answers 4 and 5 every equation's sides are typed patterns at its type.
 use Prim.Native.Nat.{ℕ, zero, suc, ◌+◌, ◌<◌, ◌≤◌, min}
-use Rattle.std.specs.Prelude.{◌≡◌, List, [], ◌∷◌, map, Bool, not, length, eqb, ltb}
+use Rattle.std.specs.Prelude.{◌≡◌, List, [], ◌∷◌, Bool, not, length, eqb, ltb}
 use Rattle.std.proofs.Math.Path.{refl, ap}
 use Rattle.std.proofs.Common.{sym, ◌∙◌}
 use Rattle.std.proofs.Math.Bool.{true, false}
@@ -10,23 +10,21 @@ use borrow.Author.Tests.{ltb-false, eqb-true, eqb-false, eq-eqb}
 use Rattle.rules.specs.declared.Found.{Found}
 use Rattle.rules.specs.declared.Found.TheVariants.{At, Nowhere}
 use Rattle.rules.specs.declared.Refused.TheVariants.{NoRoom, Broken, IllTyped, NoPattern}
-use Rattle.rules.specs.Lists.{both, either, those, from, below, least, enough}
+use Rattle.rules.specs.Lists.{both, either, those, from, below, enough}
 use Rattle.rules.specs.Words.{tag, field_a, field_b, field_c, NONE, EQ, has, is_term}
 use Rattle.rules.specs.Answers.{records}
 use Rattle.rules.specs.Records.{broken}
 use Rattle.rules.specs.Typing.{checks, typed, ill_typed}
 use Rattle.rules.specs.Pattern.{offence, no_pattern}
 use Rattle.rules.specs.Solve.{Refusal, admitted, refused, refusal}
-use Rattle.laws.specs.Tests.{false_true, both_true, lowest_none, both_yes}
-use Rattle.laws.specs.Search.{lowest_nowhere}
+use Rattle.laws.specs.Tests.{false_true, both_true, lowest_none}
 use Rattle.laws.specs.Sound.{Sound, broken_none, equation_fields}
 use Rattle.trees.specs.Tree.{Ty, Tree, AllL, at, HasTy}
-use Rattle.promise.specs.Table.{type_of, tree_of, constants, holes}
+use Rattle.promise.specs.Table.{constants, holes}
 use Rattle.promise.specs.Demand.{TypedPatterns}
 use Rattle.promise.specs.Reading.{one, Reads, ReadsTy, ty_nil, same_refl, reads_later, type_later}
 use Rattle.promise.specs.Readable.{type_at}
 use Rattle.promise.specs.Typed.{least_clean, typed_reads}
-use Rattle.promise.specs.Checked.{clean_least, typed-checks}
 use Rattle.promise.specs.TableLaws.{type_reads, tree_reads}
 use Rattle.promise.specs.Declares.{constants-read, holes-read}
 
@@ -95,13 +93,8 @@ module _ (ok : ℕ → Bool) (P : ℕ → Type 0) where
       go false q (yes z) ih = absurd (false_true (sym q ∙ ap ok z ∙ e))
       go false q (no z) ih = ih (rw (q, those) at a) (omega arith)
 
-least_bound : (bound : ℕ) (xs : List ℕ) → least bound xs ≤ bound
-unfolding least
-least_bound bound [] = omega arith
-least_bound bound (x ∷ xs) = let k = least_bound bound xs in omega arith
-
 -- the offences of an equation's sides
-abbrev offences : List ℕ → ℕ → ℕ
+abbrev pub offences : List ℕ → ℕ → ℕ
 offences ws e = min (offence enough ws (field_a ws e)) (offence enough ws (field_b ws e))
 
 -- an equation whose sides read as trees, typed at its type
@@ -116,7 +109,7 @@ pub record Equation (ws : List ℕ) (n e : ℕ) : Type 0 where
   pub right_typed : HasTy (constants ws n) (holes ws n) [] right_side (at type)
 
 module _ (ws : List ℕ) (n : ℕ) (g : Sound ws n) (low : n ≤ 4096) (e : ℕ) (l : e < n) (t : tag ws e ≡ EQ) where
-  equation_type : (A : Ty) × ReadsTy ws n (field_c ws e) A
+  pub equation_type : (A : Ty) × ReadsTy ws n (field_c ws e) A
   equation_type =
       let f = (equation_fields ws n g e l t).2 in
       let y = type_at ws n g low (field_c ws e) (omega (arith, f.0)) f.1 in
@@ -138,24 +131,6 @@ module _ (ws : List ℕ) (n : ℕ) (g : Sound ws n) (low : n ≤ 4096) (e : ℕ)
       let x = side_reads (field_a ws e) y.0 f.0 y.1 p.0 (omega arith) in
       let z = side_reads (field_b ws e) y.0 f.1 y.1 p.1 (omega arith) in
       record { type = y.0; is = y.1; left_side = x.0; left = x.1; left_typed = x.2; right_side = z.0; right = z.1; right_typed = z.2 }
-
-  side-checks : (x : ℕ) → (x < e) × (is_term ws x ≡ true) → HasTy (constants ws n) (holes ws n) [] (tree_of ws x) (at (type_of ws (field_c ws e)))
-      → (checks enough ws [] x (field_c ws e) ≡ true) × (NONE ≤ offence enough ws x)
-  side-checks x f h =
-      let y = equation_type in
-      typed-checks ws n g low (constants ws n) (holes ws n) (constants-read ws n g low) (holes-read ws n g low) enough [] x (field_c ws e) [] y.0 (omega (arith, f.0)) f.1
-      ty_nil y.1 (rw (← (type_reads enough (omega (arith, low)) y.1)) h)
-
-  equation_checks : HasTy (constants ws n) (holes ws n) [] (tree_of ws (field_a ws e)) (at (type_of ws (field_c ws e)))
-      → HasTy (constants ws n) (holes ws n) [] (tree_of ws (field_b ws e)) (at (type_of ws (field_c ws e))) → (typed ws e ≡ true) × (NONE ≤ offences ws e)
-  unfolding typed
-  equation_checks a b =
-      let f = equation_fields ws n g e l t in
-      let x = side-checks (field_a ws e) f.0 a in
-      let z = side-checks (field_b ws e) f.1 b in
-      let v = x.1 in
-      let w = z.1 in
-      (both_yes _ _ x.0 z.0, omega arith)
 
 module _ (ws ss : List ℕ) (n : ℕ) (a : Admitted ws ss n) where
   pub low : n ≤ 4096
@@ -186,27 +161,3 @@ module _ (ws ss : List ℕ) (n : ℕ) (a : Admitted ws ss n) where
       let x = admitted_reads e l (eq-eqb _ _ t) in
       let k : n ≤ enough = omega (arith, low) in
       rw (tree_reads k x.left, tree_reads k x.right, type_reads enough k x.is) (x.left_typed, x.right_typed)
-
-module _ (ws : List ℕ) (n : ℕ) (g : Sound ws n) (room : n ≤ records ws) (h : TypedPatterns ws n) where
-  checked : (e : ℕ) → e < n → has ws e EQ ≡ true → (typed ws e ≡ true) × (NONE ≤ offences ws e)
-  unfolding has records
-  checked e l q =
-      let t = eqb-true (tag ws e) EQ q in
-      let x = h e l t in
-      equation_checks ws n g (omega (arith, room)) e l t x.0 x.1
-
-  pub typed_nowhere : ill_typed ws n ≡ Nowhere
-  unfolding ill_typed both
-  typed_nowhere = lowest_nowhere n (λ e. both (has ws e EQ) (not (typed ws e))) (λ e l. go e l (has ws e EQ) refl)
-    where
-      go : (e : ℕ) → e < n → (b : Bool) → has ws e EQ ≡ b → both (has ws e EQ) (not (typed ws e)) ≡ false
-      go e l true q = rw (q, (checked e (omega arith) q).0)
-      go e l false q = rw q
-
-  pub typed_clean : no_pattern ws n ≡ NONE
-  unfolding no_pattern below
-  typed_clean =
-      let xs = those (λ e. has ws e EQ) (from 0 n) in
-      let a = clean_least NONE (offences ws) xs (those-each (λ e. has ws e EQ) (λ e. NONE ≤ offences ws e) 0 n (λ e _ l q. (checked e (omega arith) q).1)) (omega arith) in
-      let b = least_bound NONE (map (offences ws) xs) in
-      omega arith

@@ -19,8 +19,8 @@ use Rattle.trees.specs.Renaming.{ren_id, ren_comp}
 use Rattle.trees.specs.Free.{All-map}
 use Rattle.trees.specs.Filling.{nth-All, ren-itself}
 use Rattle.trees.specs.Typing.{Declared, typed_scoped, typed-holes}
-use Rattle.trees.specs.Leads.{declared_once}
-use Rattle.trees.specs.Expand.{expansion_keeps, expansion_alone}
+use Rattle.trees.proofs.Leads.{declared_once}
+use Rattle.trees.proofs.Expand.{expansion_keeps, expansion_alone}
 use Rattle.promise.specs.Reading.{ReadsTys, ty_nil, ty_cons, one, many, Reads, r_lam, r_con, r_var, r_hol, r_nil, r_cons, same_refl, lower, reads_later, listed-arguments, listed-variables, listed-elements}
 use Rattle.promise.specs.Outcomes.{Ends, map_ends, unsaid, OnlyFull, Fits}
 use Rattle.promise.specs.Writing.{Wrote, occurrence_ends}

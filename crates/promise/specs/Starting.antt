@@ -13,7 +13,7 @@ use Rattle.invariants.specs.Start.{filled-length, filled-below, filled_within, r
 use Rattle.trees.specs.Tree.{Ty, AllL, at, Pairs, PairsTyped}
 use Rattle.trees.specs.Moves.{nothing}
 use Rattle.trees.specs.Free.{AllL-map}
-use Rattle.trees.specs.Leads.{declared_once}
+use Rattle.trees.proofs.Leads.{declared_once}
 use Rattle.promise.specs.Table.{constants, holes, sides}
 use Rattle.promise.specs.Reading.{HoleAt, Same, same_tag, same_a, same_b, reads_later, hole_later}
 use Rattle.promise.specs.State.{Holds}

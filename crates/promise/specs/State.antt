@@ -13,7 +13,7 @@ use Rattle.rules.specs.Store.{Store, settle, solved, solution}
 use Rattle.trees.specs.Tree.{Ty, Tree, Holes, Sig}
 use Rattle.trees.specs.Moves.{Solutions, Adds}
 use Rattle.trees.specs.Typing.{Declared}
-use Rattle.trees.specs.Walk.{declared_later}
+use Rattle.trees.proofs.Walk.{declared_later}
 use Rattle.promise.specs.Reading.{one, Reads, r_lam, r_con, r_var, r_hol, HoleAt, Same, same_refl, same_trans, same_tag, reads_later, hole_later}
 use Rattle.promise.specs.Outcomes.{Fits, Grew, Appends}
 use Rattle.promise.specs.Writing.{Pushed}

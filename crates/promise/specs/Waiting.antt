@@ -8,7 +8,7 @@ use Rattle.rules.specs.Store.{Store, Out, goes}
 use Rattle.rules.specs.Machine.{Pair, Next, zip, upcoming}
 use Rattle.trees.specs.Tree.{Ty, Tree, Sig, args, HasTy, t_nil, t_cons, Pairs}
 use Rattle.trees.specs.Moves.{Solutions, Good, Spreads, spread_nil, spread_cons, Move, Run, Fails, NoneFrozen, run_step, run_done}
-use Rattle.trees.specs.Leads.{run-leads, run_trans}
+use Rattle.trees.proofs.Leads.{run-leads, run_trans}
 use Rattle.promise.specs.Reading.{one, many, Reads, r_nil, r_cons, reads_later}
 use Rattle.promise.specs.Outcomes.{Ends, ended, OnlyFull}
 use Rattle.promise.specs.State.{Later, Holds}

@@ -11,7 +11,7 @@ use Rattle.rules.specs.Rewrite.{Writer, write_all}
 use Rattle.trees.specs.Tree.{Tree, lam, con, var, hol, nil, cons, Holes, Sig}
 use Rattle.trees.specs.Moves.{Grows, Solutions, NoneFrozen, Walk, w_nil, w_cons, Lost, l_first, l_rest}
 use Rattle.trees.specs.Typing.{Declared}
-use Rattle.trees.specs.Walk.{declared_later}
+use Rattle.trees.proofs.Walk.{declared_later}
 use Rattle.promise.specs.Reading.{Listed, l_none, one, many, Reads, r_nil, r_cons, reads_later}
 use Rattle.promise.specs.Outcomes.{Ends, ended, bind_ends, map_ends, OnlyFull}
 use Rattle.promise.specs.Writing.{Pushed, pushed_appends, pushed_cell, push_ends}

@@ -8,7 +8,8 @@ use Rattle.rules.specs.Words.{NONE, field_b, elements, LA, CA, VA, HA}
 use Rattle.laws.specs.Lists.{size}
 use Rattle.invariants.specs.Floor.{Sub, Args}
 use Rattle.invariants.specs.Grow.{sub_less, args_less}
-use Rattle.promise.specs.TermKnown.{ListKnown, known_body, known_constant, known_variable, known-first, known_second}
+use Rattle.promise.specs.TermKnown.{ListKnown}
+use Rattle.promise.proofs.TermKnown.{known_body, known_constant, known_variable, known-first, known_second}
 use Rattle.store.specs.Said.{store}
 use Rattle.rewrite.specs.PartsLaws.{term_read, body_at, args_at, size_args, few_at, cell_read, lower_at, list_is, both_at}
 use Rattle.rewrite.specs.Terms.{TermAt, ListAt}

@@ -16,8 +16,8 @@ use Rattle.laws.specs.Lists.{size}
 use Rattle.invariants.specs.Floor.{Sub}
 use Rattle.invariants.specs.Places.{followed}
 use Rattle.invariants.specs.Rise.{reach, raised_on, Rises, rises}
-use Rattle.promise.specs.CopyKnown.{full_place, full_arguments}
-use Rattle.promise.specs.ShowKnown.{full_hole}
+use Rattle.promise.proofs.CopyKnown.{full_place, full_arguments}
+use Rattle.promise.proofs.ShowKnown.{full_hole}
 use Rattle.store.specs.Said.{store, Then, over}
 use Rattle.places.specs.Maps.{map_of}
 use Rattle.places.specs.Looking.{Looks}

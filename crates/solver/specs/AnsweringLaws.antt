@@ -25,15 +25,16 @@ use Rattle.invariants.specs.Grow.{listed_of}
 use Rattle.invariants.specs.Input.{few_cells}
 use Rattle.invariants.specs.Start.{records_few, records_room, filled-below}
 use Rattle.invariants.specs.Admit.{Admitted, Says, refusal_says}
-use Rattle.invariants.specs.Machine.{machine_grows}
+use Rattle.invariants.proofs.Machine.{machine_grows}
 use Rattle.invariants.specs.Run.{Any}
 use Rattle.invariants.specs.Copy.{Nobody}
 use Rattle.promise.specs.Table.{constants, solution_of}
 use Rattle.promise.specs.Demand.{holes_in}
 use Rattle.promise.specs.Outcomes.{went}
 use Rattle.promise.specs.Admitting.{admitted_is}
-use Rattle.promise.specs.Ending.{Final as Ran, final_good, machine_ends}
-use Rattle.promise.specs.ShowKnown.{hole_in_order}
+use Rattle.promise.specs.Ending.{Final as Ran}
+use Rattle.promise.proofs.Ending.{final_good, machine_ends}
+use Rattle.promise.proofs.ShowKnown.{hole_in_order}
 use Rattle.checks.specs.declared.Asked.{Asked}
 use Rattle.checks.specs.declared.Asked.TheVariants.{Record as Asking}
 use Rattle.checks.specs.Refusing.{asks, is_hole}

@@ -25,8 +25,8 @@ use Rattle.invariants.specs.Copy.{Nobody}
 use Rattle.invariants.specs.Run.{Any}
 use Rattle.invariants.specs.Start.{records_few}
 use Rattle.invariants.specs.Admit.{Says, refusal_says}
-use Rattle.invariants.specs.Machine.{machine_grows}
-use Rattle.invariants.specs.Answers.{show_says}
+use Rattle.invariants.proofs.Machine.{machine_grows}
+use Rattle.invariants.proofs.Answers.{show_says}
 use Rattle.machine.specs.MachineLaws.{machine_none}
 
 -- what is refused uses none

@@ -20,8 +20,9 @@ use Rattle.invariants.specs.Floor.{Grown, limit}
 use Rattle.invariants.specs.Grow.{solved_at}
 use Rattle.invariants.specs.Write.{Written}
 use Rattle.invariants.specs.Rise.{reach}
-use Rattle.invariants.specs.Copy.{Nobody, copy_grows}
-use Rattle.promise.specs.SideKnown.{side-solution, side_copied}
+use Rattle.invariants.specs.Copy.{Nobody}
+use Rattle.invariants.proofs.Copy.{copy_grows}
+use Rattle.promise.proofs.SideKnown.{side-solution, side_copied}
 use Rattle.rewrite.specs.LevelsLaws.{fuel}
 use Rattle.store.specs.Said.{store, shown}
 use Rattle.store.specs.SaidLaws.{since_root, since_failed}

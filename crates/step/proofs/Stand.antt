@@ -19,9 +19,9 @@ use Rattle.invariants.specs.Floor.{Sub, Fine}
 use Rattle.store.specs.Said.{store, Does²}
 use Rattle.rewrite.specs.PartsLaws.{term_read, counts_of}
 use Rattle.walk.specs.Assign.{Assigning}
-use Rattle.promise.specs.TermKnown.{known-arity}
-use Rattle.promise.specs.SideKnown.{side_walks}
-use Rattle.promise.specs.Known.{known-left, known_right, same_arguments, same_holes}
+use Rattle.promise.proofs.TermKnown.{known-arity}
+use Rattle.promise.proofs.SideKnown.{side_walks}
+use Rattle.promise.proofs.Known.{known-left, known_right, same_arguments, same_holes}
 use Rattle.queue.specs.Ring.{view}
 use Rattle.queue.specs.Arguments.{Joining}
 use Rattle.step.specs.Said.{Steps, ThenFinishes}

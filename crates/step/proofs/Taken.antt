@@ -14,9 +14,10 @@ use Rattle.rules.specs.Store.{Store, Out, goes, ◌>>=◌}
 use Rattle.rules.specs.Rewrite.{expand}
 use Rattle.rules.specs.Machine.{Next, meet, step}
 use Rattle.invariants.specs.Floor.{Sub, Fine, Grown}
-use Rattle.invariants.specs.Copy.{Nobody, Expanded, expand_grows}
+use Rattle.invariants.specs.Copy.{Nobody, Expanded}
+use Rattle.invariants.proofs.Copy.{expand_grows}
 use Rattle.invariants.specs.Pairs.{sides-kept}
-use Rattle.promise.specs.Known.{known-left, known_right, known_swap, known-expanded}
+use Rattle.promise.proofs.Known.{known-left, known_right, known_swap, known-expanded}
 use Rattle.store.specs.Said.{store, shown}
 use Rattle.step.specs.Expand.{Expanding, Expands}
 use Rattle.queue.specs.Ring.{view}

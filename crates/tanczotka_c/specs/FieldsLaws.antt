@@ -26,7 +26,7 @@ use Rattle.laws.specs.Members.{Every, none, more, every_so}
 use Rattle.laws.specs.Forms.{Term, is_lambda, is_constant, is_variable, is_hole_lem, term_of, offence_lambda, offence_constant, offence_variable, offence_hole}
 use Rattle.laws.specs.Unrolled.{arguments_every}
 use Rattle.invariants.specs.Start.{blank, records_few}
-use Rattle.invariants.specs.Answers.{solve_low, show_says}
+use Rattle.invariants.proofs.Answers.{solve_low, show_says}
 use Rattle.solver.specs.UsedLaws.{solve-used, show-used, read-used}
 use Rattle.write.specs.SaysLaws.{write_says}
 use Rattle.tanczotka_c.specs.Packed.{packed}

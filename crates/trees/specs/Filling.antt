@@ -1,4 +1,4 @@
--- Filling: it commutes with renaming and composes, where what fills each hole is in the scope of the hole's arguments (Suits).
+-- Filling: it commutes with renaming, where what fills each hole is in the scope of the hole's arguments (Suits).
 use Rattle.std.specs.Prelude.{◌≡◌, refl, List, [], ◌∷◌, map, ℕ, zero, suc, ◌+◌, ◌≤◌, ◌<◌, length}
 use Rattle.std.proofs.Common.{sym, ◌∙◌, ap, ap₂, arith}
 use Rattle.std.proofs.Math.Option.{Option, some}
@@ -48,15 +48,6 @@ inst-ren θ f (hol i xs) h =
     ren_agree (nth (map f xs)) (λ j. f (nth xs j)) (θ i) (All-map (nth-map f xs) (θ i) h) ∙ sym (ren_comp f (nth xs) (θ i))
 inst-ren θ f nil h = refl
 inst-ren θ f (cons t a) h = ap₂ cons (inst-ren θ f t h.0) (inst-ren θ f a h.1)
-
--- composition
-pub inst-inst : (ρ θ : ℕ → Tree) (t : Tree) → Holes (λ h _. Suits ρ (θ h)) t → inst ρ (inst θ t) ≡ inst (λ h. inst ρ (θ h)) t
-inst-inst ρ θ (lam t) w = ap lam (inst-inst ρ θ t w)
-inst-inst ρ θ (con c a) w = ap (con c) (inst-inst ρ θ a w)
-inst-inst ρ θ (var v a) w = ap (var v) (inst-inst ρ θ a w)
-inst-inst ρ θ (hol i xs) w = inst-ren ρ (nth xs) (θ i) w
-inst-inst ρ θ nil w = refl
-inst-inst ρ θ (cons t a) w = ap₂ cons (inst-inst ρ θ t w.0) (inst-inst ρ θ a w.1)
 
 -- fillings that agree on the holes of t
 pub inst_agree : (θ ρ : ℕ → Tree) (t : Tree) → Holes (λ h _. θ h ≡ ρ h) t → inst θ t ≡ inst ρ t

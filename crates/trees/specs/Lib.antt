@@ -1,4 +1,4 @@
--- The crate: Tree, Moves and Statements hold definitions and statements only, Theorems the proof of each statement.
+-- Tree, Moves and Statements hold definitions and statements only; proofs/Theorems proves each statement.
 pub mod Tree
 pub mod Moves
 pub mod Statements
@@ -13,13 +13,4 @@ pub mod Places
 pub mod Pairs
 pub mod Update
 pub mod Order
-pub mod Leads
-pub mod Read
-pub mod Stuck
-pub mod Walk
 pub mod Scopes
-pub mod Expand
-pub mod Demand
-pub mod Theorems
-pub mod Examples
-pub mod Failures

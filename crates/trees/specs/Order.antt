@@ -1,9 +1,9 @@
 -- The order of the solutions along a run: a walk keeps one stamp free for the hole that it solves, and what it narrows gets later ones.
-use Rattle.std.specs.Prelude.{◌≡◌, refl, List, ◌≢◌, ◌⊎◌, ℕ, suc, ◌-◌, ◌≤◌, ◌<◌}
+use Rattle.std.specs.Prelude.{◌≡◌, refl, List, ◌≢◌, ◌⊎◌, ℕ, suc, ◌≤◌, ◌<◌}
 use Rattle.std.proofs.Common.{sym, ◌∙◌, ap, inl, inr, arith}
 use Rattle.std.proofs.Math.Option.{Option, none, some, none-ne-some}
 use Rattle.std.proofs.Math.Decide.{ℕ_discrete}
-use Rattle.trees.specs.Tree.{Ty, Tree, hol, Holes, Sig}
+use Rattle.trees.specs.Tree.{Ty, Tree, Holes, Sig}
 use Rattle.trees.specs.Moves.{Solutions, Climbs, Stamped, Grows, Adds}
 use Rattle.trees.specs.Filling.{Holes-map, Holes-both}
 use Rattle.trees.specs.Update.{update, update_same, update_other}
@@ -15,13 +15,6 @@ Ranked r σ = (h : ℕ) (s : Tree) → σ h ≡ some s → Holes (λ g _. r g < 
 abbrev pub depth : Option Tree → ℕ → ℕ
 depth none k = 0
 depth (some s) k = suc k
-
-climbs_ranked : (lo : ℕ → ℕ) (m : ℕ) (σ : Solutions) → Climbs lo m σ → Ranked (λ h. depth (σ h) (m - lo h)) σ
-climbs_ranked lo m σ c h s e = Holes-map (λ g _ k. rw e (go g (σ g) refl k)) s (c h s e).1
-  where
-    go : (g : ℕ) (o : Option Tree) → σ g ≡ o → ((t : Tree) → σ g ≡ some t → lo h < lo g) → depth o (m - lo g) < suc (m - lo h)
-    go g none q k = omega arith
-    go g (some t) q k = omega (arith, k t q, (c g t q).0)
 
 -- step by step: u, solved now by s, gets a number below those of the solved holes of s and above those of the holes whose
 -- solutions hold u
@@ -54,9 +47,6 @@ climbs_adds lo m σ u a s τ c d l new old h t e = go (d.only h t e)
         above g k (yes y) n r q = rw y (omega (arith, n, at_u, k.1 y))
         above g k (no y) n r (inl q) = absurd (y q.0)
         above g k (no y) n r (inr q) = omega (arith, n, update_other lo u a g y, k.0 r q)
-
-pub stamped_ranked : (σ : Solutions) → Stamped σ → (r : ℕ → ℕ) × Ranked r σ
-stamped_ranked σ (lo, m, c) = (_, climbs_ranked lo m σ c)
 
 pub stamped_nothing : Stamped (λ _. none)
 stamped_nothing = ((λ _. 0), 0, λ h s e. absurd (none-ne-some s e))
@@ -120,35 +110,3 @@ later_trans u D E H σ τ υ lo m a b = record {
         let k = a.new h t q n in
         let z : t ≡ r = let x = b.solves h t q in cc in
         (omega (arith, b.old h t q, k.0), rw (← z) k.1)
-
--- a narrowing takes the next stamp
-pub later_narrow : (u : ℕ) (D E : Sig) (σ τ : Solutions) (lo : ℕ → ℕ) (m v w : ℕ) (K : List ℕ) (c d : List Ty × ℕ) → SolIn D σ → Climbs lo m σ
-    → D v ≡ some c → w ≢ u → Adds D w d E → Adds σ v (hol w K) τ → Later u D σ lo m E τ
-later_narrow u D E σ τ lo m v w K c d i l e n ae aσ = record {
-  declares = ae.grows;
-  solves = aσ.grows;
-  inside = λ h r q. inside' h r (aσ.only h r q);
-  stamp = update lo v (suc m);
-  top = suc m;
-  up = omega arith;
-  climbs =
-      climbs_adds lo (suc m) σ v (suc m) (hol w K) τ (climbs_more lo m (suc m) σ (omega arith) l) aσ (omega arith)
-      (λ q. none-ne-some c (sym ae.before ∙ ap D q ∙ e), λ t q. let x = i w t q in absurd (none-ne-some x.0 (sym ae.before ∙ x.1)))
-      (λ h t q. let b = (l h t q).0 in Holes-map (λ g _ _ _. omega arith) t (l h t q).1);
-  old = λ h r q. update_other lo v (suc m) h (λ x. none-ne-some r (sym aσ.before ∙ ap σ (sym x) ∙ q));
-  new = λ h r q z. new' h r z (aσ.only h r q);
-}
-  where
-    inside' : (h : ℕ) (r : Tree) → ((h ≡ v) × (r ≡ hol w K)) ⊎ (σ h ≡ some r) → (c : List Ty × ℕ) × (E h ≡ some c)
-    inside' h r (inl x) = (c, ap E x.0 ∙ ae.grows v c e)
-    inside' h r (inr x) = let y = i h r x in (y.0, ae.grows h y.0 y.1)
-
-    new' : (h : ℕ) (r : Tree) → σ h ≡ none → ((h ≡ v) × (r ≡ hol w K)) ⊎ (σ h ≡ some r) → (m < update lo v (suc m) h) × Holes (λ g _. g ≢ u) r
-    new' h r z (inl x) = rw (x.0, x.1) (omega (arith, update_same lo v (suc m)), n)
-    new' h r z (inr x) = absurd (none-ne-some r (sym z ∙ x))
-
-pub stamped_narrow : (D E : Sig) (σ τ : Solutions) (v w : ℕ) (K : List ℕ) (c d : List Ty × ℕ) → SolIn D σ → D v ≡ some c → Adds D w d E
-    → Adds σ v (hol w K) τ → Stamped σ → Stamped τ
-stamped_narrow D E σ τ v w K c d i e ae aσ (lo, m, l) =
-    let k = later_narrow v D E σ τ lo m v w K c d i l e (λ x. none-ne-some c (sym ae.before ∙ ap D x ∙ e)) ae aσ in
-    (k.stamp, k.top, k.climbs)

@@ -1,8 +1,8 @@
--- Typing: kept by typed injective renamings and by typed fillings, reflected by renamings, and what a typed tree's variables and holes are.
+-- Typing: kept by typed injective renamings, reflected by renamings, and what a typed tree's variables and holes are.
 use Rattle.std.specs.Prelude.{◌≡◌, refl, List, [], ◌∷◌, map, ◌≢◌, ℕ, zero, suc, ◌+◌, ◌<◌, length}
 use Rattle.std.proofs.Common.{◌∙◌, ap, subst, arith}
 use Rattle.std.proofs.Math.Option.{Option, some, none-ne-some}
-use Rattle.trees.specs.Tree.{Ty, Tree, lam, con, var, hol, nil, cons, lift, ren, nth, inst, AllL, lift_p, All, Holes, Distinct, Sig, At, Vars, v_nil, v_cons, Kind, HasTy, t_lam, t_con, t_var, t_hol, t_nil, t_cons, FillsAt, Fills, upto}
+use Rattle.trees.specs.Tree.{Ty, Tree, lam, con, var, hol, nil, cons, lift, ren, nth, AllL, lift_p, All, Holes, Distinct, Sig, At, Vars, v_nil, v_cons, Kind, HasTy, t_lam, t_con, t_var, t_hol, t_nil, t_cons, Fills, upto}
 use Rattle.trees.specs.Moves.{Grows, liftp, map_m}
 use Rattle.trees.specs.Free.{Scoped, AllL-map, AllL-both, scope_out, AllL-ren, AllL-ren-back}
 use Rattle.trees.specs.Partial.{omap_inv, omap2_inv, InjBelow}
@@ -165,15 +165,6 @@ module _ (S : ℕ → Option Ty) where
   ren-typed D f r (t_hol {G} {xs = xs} e v d) = t_hol e (vars_ren f r.0 v) (distinct-map f (length G) r.1 xs (vars_below v) d)
   ren-typed D f r t_nil = t_nil
   ren-typed D f r (t_cons d e) = t_cons (ren-typed D f r d) (ren-typed D f r e)
-
-  pub inst-typed : (D X : Sig) (θ : ℕ → Tree) {G : List Ty} {t : Tree} {k : Kind} → HasTy S D G t k → Holes (λ h _. FillsAt S D X θ h) t
-      → HasTy S X G (inst θ t) k
-  inst-typed D X θ (t_lam d) w = t_lam (inst-typed D X θ d w)
-  inst-typed D X θ (t_con e d) w = t_con e (inst-typed D X θ d w)
-  inst-typed D X θ (t_var e d) w = t_var e (inst-typed D X θ d w)
-  inst-typed D X θ (t_hol {xs = xs} {C} {b} e v d) w = ren-typed X (nth xs) (vars_embed v d) (w C b e)
-  inst-typed D X θ t_nil w = t_nil
-  inst-typed D X θ (t_cons d e) w = t_cons (inst-typed D X θ d w.0) (inst-typed D X θ e w.1)
 
   pub strengthen : (D : Sig) (P : ℕ → Type 0) (f : ℕ → ℕ) (G E : List Ty) → Reflects P f G E → (s : Tree) {k : Kind} → All P s
       → HasTy S D E (ren f s) k → HasTy S D G s k

@@ -14,10 +14,12 @@ use Rattle.laws.specs.Lists.{size, elements-kept}
 use Rattle.invariants.specs.Floor.{Fine, Ext, Grown}
 use Rattle.invariants.specs.Grow.{args_kept}
 use Rattle.invariants.specs.Rise.{reach}
-use Rattle.invariants.specs.Keep.{kept}
-use Rattle.invariants.specs.Copy.{Nobody, copy_grows}
-use Rattle.promise.specs.TermKnown.{ListKnown, walked_rest}
-use Rattle.promise.specs.CopyKnown.{full_less, copied_rest}
+use Rattle.invariants.proofs.Keep.{kept}
+use Rattle.invariants.specs.Copy.{Nobody}
+use Rattle.invariants.proofs.Copy.{copy_grows}
+use Rattle.promise.specs.TermKnown.{ListKnown}
+use Rattle.promise.proofs.TermKnown.{walked_rest}
+use Rattle.promise.proofs.CopyKnown.{full_less, copied_rest}
 use Rattle.store.specs.Said.{store}
 use Rattle.rewrite.specs.TermsLaws.{list_cell, list_rest, list_first, list_second}
 use Rattle.walk.specs.Walks.{map_at, writer}

@@ -16,7 +16,7 @@ use Rattle.rules.specs.Words.{NONE, field_a, arguments, variables}
 use Rattle.rules.specs.Store.{settle, ◌>>=◌}
 use Rattle.rules.specs.Map.{to_positions}
 use Rattle.rules.specs.Walk.{walk, assign}
-use Rattle.invariants.specs.Assign.{start_low}
+use Rattle.invariants.proofs.Assign.{start_low}
 use Rattle.store.specs.Said.{Does², store, shown}
 use Rattle.places.specs.Maps.{map_of}
 use Rattle.places.specs.Lists.{Counts}

@@ -23,8 +23,9 @@ use Rattle.invariants.specs.Grow.{all_map}
 use Rattle.invariants.specs.Places.{followed}
 use Rattle.invariants.specs.Rise.{reach, raised, raised-first, raised_on, Rises, rises}
 use Rattle.invariants.specs.Keep.{highest}
-use Rattle.promise.specs.TermKnown.{known-arguments, known-arity, known-solution}
-use Rattle.promise.specs.CopyKnown.{Full, full_less, full_arguments}
+use Rattle.promise.proofs.TermKnown.{known-arguments, known-arity, known-solution}
+use Rattle.promise.specs.CopyKnown.{Full}
+use Rattle.promise.proofs.CopyKnown.{full_less, full_arguments}
 use Rattle.store.specs.Said.{store, Does, Then, over}
 use Rattle.places.specs.Maps.{map_of, side}
 use Rattle.places.specs.Looking.{Looks, Within}
