@@ -1,4 +1,6 @@
 // The order of refusals before the machine, 4, 5, 10, 6, 7, and the checks alone: whether a problem is a well-formed, well-typed pattern problem.
+#![tactic(auto)]
+
 ghost use Rattle.std.specs.Prelude.{◌≡◌, true, ◌*◌, ◌≤◌, length};
 ghost use Rattle.rules.specs.Answers.{reply as replyOf, refusing as refusingOf, records};
 ghost use Rattle.laws.specs.Members.{Legal};
@@ -13,14 +15,14 @@ use table::{HO, read};
 use typing::{Judged, judge};
 
 // What is asked for: solving, or the answer of a record.
-#[derive(Drop)]
+#[derive(Clone, Copy)]
 pub enum Asked {
     Solving,
     Record(usize),
 }
 
 // What comes before the machine: nothing but the number of equations, or why the input is refused.
-#[derive(Drop)]
+#[derive(Clone, Copy)]
 pub enum Refusal {
     Admitted { count: usize },
     Refused(Refused),

@@ -1,4 +1,6 @@
 // Reading a file of records of 14 bytes into a table: the two-byte mark, then a, b, c little-endian.
+#![tactic(auto)]
+
 ghost use Rattle.std.specs.Prelude.{◌≡◌, not, ◌++◌, ◌+◌, ◌*◌, ◌<◌, ◌≤◌, length, drop};
 ghost use Rattle.rules.specs.Lists.{lowest};
 ghost use Rattle.rules.specs.Answers.{reply as replyOf, unreading as unreadingOf};
@@ -53,6 +55,7 @@ fn tag_at(file: &[u8], r: u32) -> Found
 }
 
 // The tag word of a mark.
+#[tactic(auto, unfolding(rules::specs::File::tag_word))]
 fn tag_word(found: Found) -> u32
     ensures { tag_word found ≡ result }
 {
@@ -128,7 +131,7 @@ fn unreading(unread: Unread) -> Reply
 
 // A file is read into a table: 12, then 4, then 13; successful reading writes only the file's n records.
 pub fn read(file: &[u8], table: &mut [u32]) -> Reply
-    ensures { read_of file.now table.entry.now ≡ record { table = table.exit.now; said = result } }
+    ensures { read_of file.now table.old ≡ record { table = table.new; said = result } }
 {
     let len = file.len();
     if 28672 < len {

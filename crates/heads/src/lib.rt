@@ -1,4 +1,6 @@
 // The types of heads and of bound variables: a head's final type, a variable's type on the stack of binders, a lambda's binder pushed on it.
+#![tactic(auto)]
+
 ghost use Rattle.std.specs.Prelude.{◌≡◌, ◌+◌, ◌*◌, ◌<◌, ◌≤◌, length};
 ghost use Rattle.rules.specs.Words.{VA};
 ghost use Rattle.laws.specs.Places.{TypeAt};
@@ -9,7 +11,7 @@ use rules::Found;
 use table::{AR, NONE, Record, VA, Variable, read};
 
 // A head's final type, and how many arguments it asks.
-#[derive(Drop)]
+#[derive(Clone, Copy)]
 pub struct Final {
     pub base: u32,
     pub count: u32,

@@ -1,4 +1,6 @@
 // The program's text: a file is read and solved once, and then each line is made in a lent buffer.
+#![tactic(auto)]
+
 ghost use Rattle.std.specs.Prelude.{◌≤◌, length};
 ghost use Rattle.rules.specs.Answers.{reply};
 ghost use Rattle.rules.specs.Text.{reply_line};
@@ -14,7 +16,7 @@ use table::{HO, Hole};
 use text::{hole_line, reply_line};
 
 // What the lines are made from besides the words left: the first line's reply, and how many holes have a line after it.
-#[derive(Drop)]
+#[derive(Clone, Copy)]
 pub struct Begun {
     pub reply: Reply,
     pub holes: u32,

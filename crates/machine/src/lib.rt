@@ -1,5 +1,7 @@
 // The machine on an admitted input: the table is cleared, all equations enter the queue, pairs are taken until none waits; the reply, and what
 // is left behind.
+#![tactic(auto)]
+
 ghost use Rattle.std.specs.Prelude.{◌≡◌, ◌∷◌};
 ghost use Rattle.rules.specs.Answers.{number, pairs};
 ghost use Rattle.rules.specs.Machine.{machine as machine_of};
@@ -18,7 +20,7 @@ use step::{Step, take_step};
 use store::{clear, fill, first_unused};
 
 // What the run comes to: the records used, or the failure.
-#[derive(Drop)]
+#[derive(Clone, Copy)]
 pub enum Ran {
     Solved(u32),
     Failed(Failure),
@@ -43,7 +45,7 @@ fn run(
     let mut u = n;
     let mut l = left;
     let mut r = right;
-    loop {
+    'turns: loop {
         match take_step(table, solutions, queue, n, u, room, cap, g, l, r) {
             Step::Failed(e) => return Ran::Failed(e),
             Step::On { left, right, used } => {

@@ -1,4 +1,6 @@
 // Narrowing a hole, and keeping the arguments of an occurrence that have a place.
+#![tactic(auto)]
+
 ghost use Rattle.std.specs.Prelude.{true, false, ◌<◌};
 ghost use Rattle.rules.specs.Store.{push_cells};
 ghost use Rattle.rules.specs.Walk.{narrow as narrowOf, keep_placed};
@@ -14,7 +16,7 @@ use table::{HO, Hole, NONE, read};
 
 // What narrowing answers: the records used and the new hole, or the failure. In this order, since with the hole first `walk_hole` is compiled
 // 30 bytes longer, which moves the code after it, and "equal rigid trees" large took 6 % longer.
-#[derive(Drop)]
+#[derive(Clone, Copy)]
 pub enum Narrowed {
     To { used: u32, hole: Hole },
     Failed(Failure),

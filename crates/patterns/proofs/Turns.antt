@@ -9,7 +9,7 @@ use lib.ListN.{length}
 use Rattle.table.specs.declared.Record.{Record}
 use Rattle.table.specs.Reading.{IsRecord}
 use Rattle.rules.specs.Lists.{both, either, all, any, among, distinct}
-use Rattle.rules.specs.Words.{NONE, VA, tag, field_a, has, is_term, elements, bare}
+use Rattle.rules.specs.Words.{NONE, VA, field_a, has, is_term, elements, bare}
 use Rattle.laws.specs.Tests.{both_no}
 use Rattle.laws.specs.Lists.{size, elements_none}
 use Rattle.laws.specs.Places.{ListAt, placed_inside, term_cell}

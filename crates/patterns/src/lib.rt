@@ -1,4 +1,6 @@
 // Patterns (7): whether a hole occurrence's arguments are different bare variables.
+#![tactic(auto)]
+
 ghost use Rattle.std.specs.Prelude.{◌≡◌, map, min};
 ghost use Rattle.rules.specs.Lists.{among};
 ghost use Rattle.rules.specs.Words.{field_a, is_term, elements};

@@ -1,4 +1,6 @@
 // The partial map of the walk by value: a place for each position of an argument list, what it says under lambdas, and the maps that a hole's arguments give.
+#![tactic(auto)]
+
 ghost use Rattle.std.specs.Prelude.{◌≡◌, true, false, ◌+◌, ◌*◌, ◌<◌, length, eqb};
 ghost use Rattle.rules.specs.Words.{field_a};
 ghost use Rattle.rules.specs.Map.{lookup, place_of};
@@ -13,14 +15,14 @@ use table::{NONE, Variable, read};
 
 // The partial map: so many of 16 places, one for each position of an argument list; NONE is no place. It is read from places to
 // positions for the arguments of the solved hole, and from positions to places below a solved hole.
-#[derive(Drop)]
+#[derive(Clone, Copy)]
 pub struct Map {
     pub places: [u32; 16],
     pub len: usize,
 }
 
 // Where a map leads a variable: the number of the variable that stands for it there, or nowhere.
-#[derive(Drop)]
+#[derive(Clone, Copy)]
 pub enum Place {
     At(Variable),
     Nowhere,

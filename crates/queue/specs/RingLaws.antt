@@ -47,7 +47,7 @@ view_none q cap g e = rw e
 from-length : (q : List ℕ) (cap h k : ℕ) → length (from q cap h k) ≡ k
 unfolding from
 from-length q cap h zero = refl
-from-length q cap h (suc k) = ap suc (from-length q cap _ k)
+from-length q cap h (suc k) = ap suc (from-length q cap (wrap cap (h + 1)) k)
 
 pub view-length : (q : List ℕ) (cap : ℕ) (g : Ring) → length (view q cap g) ≡ g.count
 unfolding view

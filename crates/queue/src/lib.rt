@@ -1,4 +1,6 @@
 // The queue of waiting pairs: a ring over the lent words, two words a pair, whose freed places are used again.
+#![tactic(auto)]
+
 ghost use Rattle.std.specs.Prelude.{◌≡◌, ◌∷◌, [], ◌+◌, ◌<◌, take};
 ghost use Rattle.queue.specs.Ring.{Wraps, Roomy, Front, Some, Joins, Queued, Leaves, front_of, no_pair};
 ghost use Rattle.queue.specs.Arguments.{pairs_of, Joining};
@@ -7,21 +9,21 @@ ghost use Rattle.queue.specs.Equations.{sides_of, Entering};
 use table::{NONE, read};
 
 // The place of the first pair, and how many wait.
-#[derive(Drop)]
+#[derive(Clone, Copy)]
 pub struct Ring {
     pub head: usize,
     pub count: usize,
 }
 
 // A waiting pair.
-#[derive(Drop)]
+#[derive(Clone, Copy)]
 pub struct Pair {
     pub left: u32,
     pub right: u32,
 }
 
 // What the queue answers to new pairs: waiting pairs plus new ones exceed cap, or all have joined.
-#[derive(Drop)]
+#[derive(Clone, Copy)]
 pub enum Joined {
     Full,
     To(Ring),

@@ -2,6 +2,8 @@
 //
 // The mark of a record that keeps the rules is its tag; for a cell it is the number of cells of the list that begins there, counted from LIST_OF_TYPES or
 // from LIST_OF_TERMS. A record that may be referred to once only, which is one of tag CE to HA, has REFERRED more when it is. So one mark judges a field.
+#![tactic(auto)]
+
 ghost use Rattle.std.specs.Prelude.{◌≡◌, ◌+◌, ◌*◌, ◌<◌, ◌≤◌, length, leb};
 ghost use Rattle.records.specs.Ranges.{TYPE_HIGH};
 ghost use Rattle.records.specs.Marks.{counted_from, lower_mark, lies, ReferredAsks, ReferredSays, FirstCellSays, FieldSays, LengthAsks, LengthSays, CellAsks, CellSays};
@@ -45,14 +47,14 @@ const TERMS_HIGH: u8 = LIST_OF_TERMS + MOST_CELLS;
 const REFERRED: u8 = 128;
 
 // What one pass over the records says: the lowest broken one, or how many equations there are.
-#[derive(Drop)]
+#[derive(Clone, Copy)]
 pub enum Pass {
     Broken(u32),
     Sound(usize),
 }
 
 // What a field can hold: the kinds of the records section's table.
-#[derive(Drop)]
+#[derive(Clone, Copy)]
 enum Field {
     Nil,
     Any,

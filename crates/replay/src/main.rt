@@ -1,8 +1,11 @@
 // Replays stored problems: each is read from standard input, as `independent replay-in` writes it, and the replies and every word that
 // solve, show, read and write leave are printed.
+#![tactic(auto)]
+
 ghost use Rattle.std.specs.Prelude.{◌+◌, ◌*◌, ◌≤◌, length, ◌≡◌};
 
 use rules::Reply;
+use std::io::{Read, Write};
 use stored::{
     PROBLEMS, fill, print_reply, print_words, read_end, read_head, read_words, stop, word,
 };
@@ -18,27 +21,35 @@ fn start(bytes: &[u8], table: &mut [u32], solutions: &mut [u32], queue: &mut [u3
 }
 
 // A line of words; false, here and below, where the program stops, which is said.
-fn print(name: &[u8], words: &[u32]) -> bool {
+fn print<W: Write>(out: &mut W, name: &[u8], words: &[u32]) -> bool {
     let mut line = [0u8; 270000];
-    print_words(&mut line, name, words)
+    print_words(out, &mut line, name, words)
 }
 
 // The line of a reply.
-fn print_said(name: &[u8], reply: Reply) -> bool {
+fn print_said<W: Write>(out: &mut W, name: &[u8], reply: Reply) -> bool {
     let mut line = [0u8; 64];
-    print_reply(&mut line, name, reply)
+    print_reply(out, &mut line, name, reply)
 }
 
 // What solve or show replies, and the words that it leaves.
-fn print_left(name: &[u8], reply: Reply, table: &[u32], solutions: &[u32], queue: &[u32]) -> bool {
-    print_said(name, reply)
-        && print(b"table", table)
-        && print(b"solutions", solutions)
-        && print(b"queue", queue)
+fn print_left<W: Write>(
+    out: &mut W,
+    name: &[u8],
+    reply: Reply,
+    table: &[u32],
+    solutions: &[u32],
+    queue: &[u32],
+) -> bool {
+    print_said(out, name, reply)
+        && print(out, b"table", table)
+        && print(out, b"solutions", solutions)
+        && print(out, b"queue", queue)
 }
 
 // A problem is solved.
-fn solve(
+fn solve<W: Write>(
+    out: &mut W,
     bytes: &[u8],
     n: usize,
     table: &mut [u32],
@@ -49,11 +60,12 @@ fn solve(
 {
     start(bytes, table, solutions, queue);
     let reply = solver::solve(table, n, solutions, queue);
-    print_left(b"solve", reply, table, solutions, queue)
+    print_left(out, b"solve", reply, table, solutions, queue)
 }
 
 // A hole of a problem is shown.
-fn show(
+fn show<W: Write>(
+    out: &mut W,
     bytes: &[u8],
     n: usize,
     hole: usize,
@@ -67,17 +79,25 @@ fn show(
     let last = start(bytes, table, solutions, queue);
     fill(bytes, last, output);
     let reply = solver::show(table, n, solutions, queue, hole, output);
-    print_left(b"show", reply, table, solutions, queue) && print(b"output", output)
+    print_left(out, b"show", reply, table, solutions, queue) && print(out, b"output", output)
 }
 
 // A problem with so many words in each slice is solved, from its bytes.
-fn solve_bytes(bytes: &[u8; 96000], n: usize, t: usize, s: usize, q: usize) -> bool
+fn solve_bytes<W: Write>(
+    out: &mut W,
+    bytes: &[u8; 96000],
+    n: usize,
+    t: usize,
+    s: usize,
+    q: usize,
+) -> bool
     requires { t + s + q ≤ 24000 }
 {
     let mut table = [0u32; 24000];
     let mut solutions = [0u32; 24000];
     let mut queue = [0u32; 24000];
     solve(
+        out,
         bytes,
         n,
         &mut table[..t],
@@ -87,7 +107,8 @@ fn solve_bytes(bytes: &[u8; 96000], n: usize, t: usize, s: usize, q: usize) -> b
 }
 
 // A hole of it is shown, from the words before.
-fn show_bytes(
+fn show_bytes<W: Write>(
+    out: &mut W,
     bytes: &[u8; 96000],
     n: usize,
     hole: usize,
@@ -103,6 +124,7 @@ fn show_bytes(
     let mut queue = [0u32; 24000];
     let mut output = [0u32; 24000];
     show(
+        out,
         bytes,
         n,
         hole,
@@ -114,9 +136,9 @@ fn show_bytes(
 }
 
 // A problem of the first kind.
-fn problem() -> bool {
+fn problem<R: Read, W: Write>(input: &mut R, out: &mut W) -> bool {
     let mut head = [0u8; 24];
-    if !read_words(&mut head, 6) {
+    if !read_words(input, out, &mut head, 6) {
         return false;
     }
     let n = word(&head, 0) as usize;
@@ -127,33 +149,33 @@ fn problem() -> bool {
     let o = word(&head, 5) as usize;
     let count = t + s + q + o;
     let mut bytes = [0u8; 96000];
-    if !read_words(&mut bytes, count) {
+    if !read_words(input, out, &mut bytes, count) {
         return false;
     }
-    solve_bytes(&bytes, n, t, s, q) && show_bytes(&bytes, n, hole, t, s, q, o)
+    solve_bytes(out, &bytes, n, t, s, q) && show_bytes(out, &bytes, n, hole, t, s, q, o)
 }
 
 // A file, the first f of the bytes, is read into a table, whose words stand from word `first` on.
-fn read(bytes: &[u8], f: usize, first: usize, table: &mut [u32]) -> bool
+fn read<W: Write>(out: &mut W, bytes: &[u8], f: usize, first: usize, table: &mut [u32]) -> bool
     requires { (f ≤ length bytes.now) × (4 * (first + length table.old) ≤ length bytes.now) }
 {
     fill(bytes, first, table);
     let reply = file::read(&bytes[..f], table);
-    print_said(b"read", reply) && print(b"table", table)
+    print_said(out, b"read", reply) && print(out, b"table", table)
 }
 
 // A file of so many bytes, and a table of so many words after it, from their bytes.
-fn read_file(bytes: &[u8; 96000], f: usize, first: usize, t: usize) -> bool
+fn read_file<W: Write>(out: &mut W, bytes: &[u8; 96000], f: usize, first: usize, t: usize) -> bool
     requires { (f ≤ 4 * first) × (first + t ≤ 24000) }
 {
     let mut table = [0u32; 24000];
-    read(bytes, f, first, &mut table[..t])
+    read(out, bytes, f, first, &mut table[..t])
 }
 
 // A problem of the second kind.
-fn file_problem() -> bool {
+fn file_problem<R: Read, W: Write>(input: &mut R, out: &mut W) -> bool {
     let mut head = [0u8; 8];
-    if !read_words(&mut head, 2) {
+    if !read_words(input, out, &mut head, 2) {
         return false;
     }
     let f = word(&head, 0) as usize;
@@ -161,11 +183,18 @@ fn file_problem() -> bool {
     let first = (f + 3) / 4;
     let count = first + t;
     let mut bytes = [0u8; 96000];
-    read_words(&mut bytes, count) && read_file(&bytes, f, first, t)
+    read_words(input, out, &mut bytes, count) && read_file(out, &bytes, f, first, t)
 }
 
 // The first n records of a table, whose words stand first, are written to a file of f bytes, which stand after them; the file is printed as words.
-fn write(bytes: &mut [u8], n: usize, f: usize, table: &mut [u32], file: &mut [u32]) -> bool
+fn write<W: Write>(
+    out: &mut W,
+    bytes: &mut [u8],
+    n: usize,
+    f: usize,
+    table: &mut [u32],
+    file: &mut [u32],
+) -> bool
     requires { (f ≤ 4 * length file.old) × (4 * (length table.old + length file.old) ≤ length bytes.old) }
 {
     let first = fill(bytes, 0, table);
@@ -173,22 +202,29 @@ fn write(bytes: &mut [u8], n: usize, f: usize, table: &mut [u32], file: &mut [u3
     let end = start + f;
     let reply = write::write(table, n, &mut bytes[start..end]);
     fill(bytes, first, file);
-    print_said(b"write", reply) && print(b"file", file)
+    print_said(out, b"write", reply) && print(out, b"file", file)
 }
 
 // A table of t words and a file of f bytes after it, in so many words, from their bytes.
-fn write_bytes(bytes: &mut [u8; 96000], n: usize, t: usize, f: usize, words: usize) -> bool
+fn write_bytes<W: Write>(
+    out: &mut W,
+    bytes: &mut [u8; 96000],
+    n: usize,
+    t: usize,
+    f: usize,
+    words: usize,
+) -> bool
     requires { (f ≤ 4 * words) × (t + words ≤ 24000) }
 {
     let mut table = [0u32; 24000];
     let mut file = [0u32; 24000];
-    write(bytes, n, f, &mut table[..t], &mut file[..words])
+    write(out, bytes, n, f, &mut table[..t], &mut file[..words])
 }
 
 // A problem of the third kind: n, how many words the table and how many bytes the file has, then these words and bytes.
-fn table_problem() -> bool {
+fn table_problem<R: Read, W: Write>(input: &mut R, out: &mut W) -> bool {
     let mut head = [0u8; 12];
-    if !read_words(&mut head, 3) {
+    if !read_words(input, out, &mut head, 3) {
         return false;
     }
     let n = word(&head, 0) as usize;
@@ -197,33 +233,35 @@ fn table_problem() -> bool {
     let words = (f + 3) / 4;
     let count = t + words;
     let mut bytes = [0u8; 96000];
-    read_words(&mut bytes, count) && write_bytes(&mut bytes, n, t, f, words)
+    read_words(input, out, &mut bytes, count) && write_bytes(out, &mut bytes, n, t, f, words)
 }
 
 // One problem is replayed; false at the end of the input too.
-fn replay() -> bool {
+fn replay<R: Read, W: Write>(input: &mut R, out: &mut W) -> bool {
     let mut kind = [0u8; 4];
-    if !read_head(&mut kind) {
+    if !read_head(input, out, &mut kind) {
         return false;
     }
     match word(&kind, 0) {
-        1 => problem(),
-        2 => file_problem(),
-        3 => table_problem(),
+        1 => problem(input, out),
+        2 => file_problem(input, out),
+        3 => table_problem(input, out),
         _ => {
-            stop(b"an unknown kind of problem");
+            stop(out, b"an unknown kind of problem");
             false
         }
     }
 }
 
-fn main() {
+fn main(rt: HostRuntime) {
+    let mut input = rt.stdin();
+    let mut out = rt.stdout();
     let mut left = PROBLEMS;
     while 0 < left {
-        if !replay() {
+        if !replay(&mut input, &mut out) {
             return;
         }
         left -= 1;
     }
-    read_end();
+    read_end(&mut input, &mut out);
 }

@@ -1,5 +1,5 @@
 -- Lambdas written one by one, and none.
-use Rattle.std.specs.Prelude.{ℕ, suc, ◌-◌, ◌≡◌}
+use Rattle.std.specs.Prelude.{ℕ, suc, ◌≡◌}
 use Rattle.rules.specs.Store.{Out, ◌>>=◌}
 use Rattle.rules.specs.Words.{LA}
 use Rattle.store.specs.Said.{under}

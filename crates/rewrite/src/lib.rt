@@ -1,4 +1,6 @@
 // Terms written anew, as copying and showing share it: where variables are led that have a place, and lambdas after a body.
+#![tactic(auto)]
+
 ghost use Rattle.std.specs.Prelude.{◌≡◌, ◌*◌, ◌≤◌, length, false};
 ghost use Rattle.rules.specs.declared.Found.TheVariants.{At};
 ghost use Rattle.rules.specs.Map.{place_of};

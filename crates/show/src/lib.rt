@@ -1,4 +1,6 @@
 // Show: one hole's answer with all solved holes expanded, written into the output.
+#![tactic(auto)]
+
 ghost use Rattle.std.specs.Prelude.{◌≡◌};
 ghost use Rattle.rules.specs.Show.{answer as answer_of};
 ghost use Rattle.store.specs.Said.{store, shown};
@@ -13,7 +15,7 @@ use table::{HA, Hole, LA, NONE, VA, Variable, read};
 
 // What the parts of a showing share: an output of `room` records, and the floor. The floor is there for the proof that showing ends:
 // no record below it is read, and it rises at each solved hole.
-#[derive(Drop)]
+#[derive(Clone, Copy)]
 struct Task {
     room: u32,
     floor: u32,

@@ -85,7 +85,11 @@ module _ (ws ss : List ℕ) (n h : ℕ) (a : Admitted (is_hole ws n h) ws ss n) 
 
 number_some : (e : Failure) → 1 ≤ number e
 unfolding number
-number_some e = elim e [ Clash ↦ omega arith | Escape ↦ omega arith | Occurs ↦ omega arith | QueueFull ↦ omega arith | TableFull ↦ omega arith ]
+number_some Clash = omega arith
+number_some Escape = omega arith
+number_some Occurs = omega arith
+number_some QueueFull = omega arith
+number_some TableFull = omega arith
 
 module _ (asked : Asked) (ws ss qs : List ℕ) (n h : ℕ) (ws₁ ss₁ qs₁ : List ℕ) (r : Reply)
     (e : AskedLeaves asked ws ss qs n ws₁ ss₁ qs₁ r) (is : asked ≡ Asking h) where

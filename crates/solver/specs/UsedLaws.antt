@@ -31,7 +31,11 @@ use Rattle.machine.specs.MachineLaws.{machine_none}
 
 -- what is refused uses none
 refusing_none : (x : Refused) → (refusing x).used ≡ 0
-refusing_none x = elim x [ NoRoom ↦ refl | Broken r ↦ refl | NoHole ↦ refl | IllTyped r ↦ refl | NoPattern r ↦ refl ]
+refusing_none NoRoom = refl
+refusing_none (Broken r) = refl
+refusing_none NoHole = refl
+refusing_none (IllTyped r) = refl
+refusing_none (NoPattern r) = refl
 
 module _ (ws ss qs : List ℕ) (n : ℕ) where
   -- no more records are used than there are

@@ -1,4 +1,6 @@
 // Solving, and showing one hole's answer: the public functions over lent words.
+#![tactic(auto)]
+
 ghost use Rattle.std.specs.Prelude.{◌≡◌};
 ghost use Rattle.rules.specs.Solve.{solve as solveOf};
 ghost use Rattle.rules.specs.Show.{show as showOf};
@@ -13,7 +15,7 @@ use table::Hole;
 
 // Solving the first n records of a table, with solution and queue words.
 pub fn solve(table: &mut [u32], n: usize, solutions: &mut [u32], queue: &mut [u32]) -> Reply
-    ensures { solveOf table.entry.now solutions.old queue.old n ≡ record { table = table.exit.now; solutions = solutions.new; queue = queue.new; said = result } }
+    ensures { solveOf table.old solutions.old queue.old n ≡ record { table = table.new; solutions = solutions.new; queue = queue.new; said = result } }
 {
     solve_asked(table, n, solutions, queue, Asked::Solving)
 }
@@ -52,7 +54,7 @@ pub fn show(
     hole: usize,
     output: &mut [u32],
 ) -> Reply
-    ensures { showOf table.entry.now solutions.old queue.old output.old n hole ≡ record { behind = record { table = table.exit.now; solutions = solutions.new; queue = queue.new; said = result }; output = output.new } }
+    ensures { showOf table.old solutions.old queue.old output.old n hole ≡ record { behind = record { table = table.new; solutions = solutions.new; queue = queue.new; said = result }; output = output.new } }
 {
     let reply = solve_asked(table, n, solutions, queue, Asked::Record(hole));
     if reply.answer != 0 {

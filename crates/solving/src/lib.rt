@@ -1,4 +1,6 @@
 // Solving for what is asked: the refusals in their order, which write nothing, and otherwise the machine.
+#![tactic(auto)]
+
 ghost use Rattle.solving.specs.Checking.{Inside, Checking, AskedLeaves};
 
 use checks::{Asked, Refusal, out_of_room, refuse, refusing, room_of};

@@ -1,5 +1,5 @@
 -- Which of the steps 2 to 5 two sides ask for.
-use Rattle.std.specs.Prelude.{ℕ, ◌+◌, ◌-◌, ◌*◌, ◌<◌, ◌≤◌, ◌≡◌, List, Bool, true, false, length}
+use Rattle.std.specs.Prelude.{ℕ, ◌+◌, ◌*◌, ◌<◌, ◌≤◌, ◌≡◌, List, Bool, true, false, length}
 use Rattle.rules.specs.declared.Failure.TheVariants.{Clash as Clashes}
 use Rattle.table.specs.declared.Record.{Record}
 use Rattle.step.specs.declared.Meeting.{Meeting}

@@ -1,5 +1,5 @@
 -- What step 4 asks and says.
-use Rattle.std.specs.Prelude.{ℕ, ◌+◌, ◌-◌, ◌*◌, ◌<◌, ◌≡◌, List, false, length}
+use Rattle.std.specs.Prelude.{ℕ, ◌+◌, ◌*◌, ◌<◌, ◌≡◌, List, false, length}
 use Rattle.places.specs.declared.Map.{Map}
 use Rattle.queue.specs.declared.Ring.{Ring}
 use Rattle.step.specs.declared.Step.{Step}

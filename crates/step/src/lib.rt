@@ -1,4 +1,6 @@
 // A step of the machine for the pair taken: step 1 for the left side, then for the right side, then steps 2 to 5.
+#![tactic(auto)]
+
 ghost use Rattle.std.specs.Prelude.{◌≡◌};
 ghost use Rattle.rules.specs.Machine.{meet as meet_of, step as step_of};
 ghost use Rattle.narrow.specs.Narrowing.{rooted};
@@ -21,7 +23,7 @@ use table::{HA, Hole, LA, NONE, Record, read};
 use walk::{assign, copy_solution};
 
 // What a step answers: go on with a pair, done, or one of the failures.
-#[derive(Drop)]
+#[derive(Clone, Copy)]
 pub enum Step {
     On { left: u32, right: u32, used: u32 },
     Done { ring: Ring, used: u32 },
@@ -29,7 +31,7 @@ pub enum Step {
 }
 
 // What two heads that are no solved holes ask for: steps 2, 3, 4, 5 for a side that a hole heads, or a clash.
-#[derive(Drop)]
+#[derive(Clone, Copy)]
 enum Meeting {
     Bodies { left: u32, right: u32 },
     Arguments { left: u32, right: u32 },

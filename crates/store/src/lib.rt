@@ -1,4 +1,6 @@
 // What is written into lent words: records appended through the part that starts at record n, with the answer; words set, records cleared.
+#![tactic(auto)]
+
 ghost use Rattle.std.specs.Prelude.{◌≡◌, false, ◌+◌, ◌*◌, ◌<◌, ◌≤◌, length, get_or, replicate, take};
 ghost use Rattle.rules.specs.Store.{put as put_at, push as pushOf, push_cells, push_variables, push_occurrence};
 ghost use Rattle.places.specs.Maps.{map_of, side};
@@ -14,7 +16,7 @@ use rules::Failure;
 use table::{CE, HA, Hole, NONE, VA, Variable};
 
 // What a part of the machine answers: the record that it wrote and the records used, or the failure.
-#[derive(Drop)]
+#[derive(Clone, Copy)]
 pub enum Walked {
     Root { root: u32, used: u32 },
     Failed(Failure),

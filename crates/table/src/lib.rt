@@ -1,4 +1,6 @@
 // A table's records as code reads them, and the two countings of numbers in them.
+#![tactic(auto)]
+
 ghost use Rattle.std.specs.Prelude.{◌+◌, ◌*◌, ◌<◌, length};
 ghost use Rattle.table.specs.Reading.{IsRecord};
 
@@ -27,15 +29,15 @@ pub const HA: u32 = 9;
 pub const EQ: u32 = 10;
 
 // A hole's record number.
-#[derive(Drop)]
+#[derive(Clone, Copy)]
 pub struct Hole(pub u32);
 
 // A bound variable's number.
-#[derive(Drop)]
+#[derive(Clone, Copy)]
 pub struct Variable(pub u32);
 
 // A record's four words.
-#[derive(Drop)]
+#[derive(Clone, Copy)]
 pub struct Record {
     pub tag: u32,
     pub a: u32,

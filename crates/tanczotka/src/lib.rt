@@ -1,10 +1,14 @@
-// The program: a problem file on standard input is read whole, then its lines are written; what it answers is the exit status.
+// The program: a problem file on standard input is read whole, then its lines are written; what it answers is the exit status, unless closing
+// standard output fails after it.
+#![tactic(auto)]
+
 ghost use Rattle.std.specs.Prelude.{◌≤◌, length};
 ghost use Rattle.tanczotka.specs.Moving.{Within, half};
 ghost use Rattle.tanczotka.specs.Gathering.{Gathers};
 
-use libc::{EINTR, STDIN_FILENO, STDOUT_FILENO};
 use lines::{Begun, begin, line};
+use std::io;
+use std::io::{Error, ErrorKind, Read, Stderr, Stdin, Stdout, Write};
 
 // The exit statuses: everything was printed; standard input could not be read; standard output could not be written.
 const PRINTED: i32 = 0;
@@ -16,57 +20,60 @@ const NOT_WRITTEN: i32 = 4;
 // A call that was interrupted is made again, at most so often.
 const CALLS: u32 = 1000000;
 
-// What reading or writing came to: so many bytes, or it failed.
+// What reading or writing came to: so many bytes, or why it failed.
 #[derive(Drop)]
 enum Moved {
     Bytes(usize),
-    Failed,
+    Failed(Error),
 }
 
-// Some bytes of standard input, none at its end.
-fn read_some(bytes: &mut [u8]) -> Moved
+// Some bytes of the input, none at its end.
+fn read_some<R: Read>(input: &mut R, bytes: &mut [u8]) -> Moved
     ensures { Within (length bytes.old) result }
 {
     let mut calls = CALLS;
     while 0 < calls {
-        let got = libc::read(STDIN_FILENO, bytes);
-        if 0 <= got {
-            return Moved::Bytes(io::count(got, bytes));
-        }
-        if os::errno() != EINTR {
-            return Moved::Failed;
+        match input.read(bytes) {
+            Ok(count) => return Moved::Bytes(count),
+            Err(why) => {
+                if why.kind() != ErrorKind::Interrupted {
+                    return Moved::Failed(why);
+                }
+            }
         }
         calls -= 1;
     }
-    Moved::Failed
+    Moved::Failed(Error::from(ErrorKind::Interrupted))
 }
 
-// Some of the bytes to standard output.
-fn write_some(bytes: &[u8]) -> Moved
+// Some of the bytes to the output.
+fn write_some<W: Write>(out: &mut W, bytes: &[u8]) -> Moved
     ensures { Within (length bytes.now) result }
 {
     let mut calls = CALLS;
     while 0 < calls {
-        let got = libc::write(STDOUT_FILENO, bytes);
-        if 0 <= got {
-            return Moved::Bytes(io::count(got, bytes));
-        }
-        if os::errno() != EINTR {
-            return Moved::Failed;
+        match out.write(bytes) {
+            Ok(count) => return Moved::Bytes(count),
+            Err(why) => {
+                if why.kind() != ErrorKind::Interrupted {
+                    return Moved::Failed(why);
+                }
+            }
         }
         calls -= 1;
     }
-    Moved::Failed
+    Moved::Failed(Error::from(ErrorKind::Interrupted))
 }
 
-// Standard input up to its end, or until the bytes are full.
-fn read_all(bytes: &mut [u8]) -> Moved
+// The input up to its end, or until the bytes are full.
+fn read_all<R: Read>(input: &mut R, bytes: &mut [u8]) -> Moved
     ensures { Within (length bytes.old) result }
 {
     let mut done = 0;
     while done < bytes.len() {
-        let Moved::Bytes(count) = read_some(&mut bytes[done..]) else {
-            return Moved::Failed;
+        let count = match read_some(input, &mut bytes[done..]) {
+            Moved::Bytes(count) => count,
+            Moved::Failed(why) => return Moved::Failed(why),
         };
         if count == 0 {
             return Moved::Bytes(done);
@@ -76,62 +83,64 @@ fn read_all(bytes: &mut [u8]) -> Moved
     Moved::Bytes(done)
 }
 
-// All of the bytes to standard output; false where a write failed or took nothing.
-fn write_all(bytes: &[u8]) -> bool {
+// All of the bytes to the output; an error where a write failed or took nothing.
+fn write_all<W: Write>(out: &mut W, bytes: &[u8]) -> io::Result<()> {
     let mut done = 0;
     while done < bytes.len() {
-        let Moved::Bytes(count) = write_some(&bytes[done..]) else {
-            return false;
+        let count = match write_some(out, &bytes[done..]) {
+            Moved::Bytes(count) => count,
+            Moved::Failed(why) => return Err(why),
         };
         if count == 0 {
-            return false;
+            return Err(Error::from(ErrorKind::WriteZero));
         }
         done += count;
     }
-    true
+    Ok(())
 }
 
 // Text that was gathered is written once there are more than 65,536 bytes of it; how many are gathered then.
-fn write_gathered(text: &[u8], end: usize) -> Moved
+fn write_gathered<W: Write>(out: &mut W, text: &[u8], end: usize) -> Moved
     requires { end ≤ length text.now }
     ensures { Within half result }
 {
     if end <= 65536 {
         return Moved::Bytes(end);
     }
-    if write_all(&text[..end]) {
-        return Moved::Bytes(0);
+    match write_all(out, &text[..end]) {
+        Ok(()) => Moved::Bytes(0),
+        Err(why) => Moved::Failed(why),
     }
-    Moved::Failed
 }
 
-// The lines, gathered in a buffer; false where one could not be written.
-fn write_lines(
+// The lines, gathered in a buffer; an error where one could not be written.
+fn write_lines<W: Write>(
+    out: &mut W,
     begun: Begun,
     table: &[u32],
     solutions: &[u32],
     holes: &[u16],
     output: &mut [u32],
     text: &mut [u8],
-) -> bool
+) -> io::Result<()>
     requires { Gathers begun table.now solutions.now holes.now output.old text.old 0 }
 {
     let mut end = 0;
     let mut i = 0u32;
     while i <= begun.holes {
         let made = line(&mut text[end..], i, begun, table, solutions, holes, output);
-        let Moved::Bytes(gathered) = write_gathered(text, end + made) else {
-            return false;
+        end = match write_gathered(out, text, end + made) {
+            Moved::Bytes(gathered) => gathered,
+            Moved::Failed(why) => return Err(why),
         };
-        end = gathered;
         i += 1;
     }
-    write_all(&text[..end])
+    write_all(out, &text[..end])
 }
 
-// The lines of a file, with R = 4,096, C = 1,024 and an output of 4,096 records. Standard output is closed after them, since a write may
-// fail as late as that.
-fn print(file: &[u8]) -> bool {
+// The lines of a file, with R = 4,096, C = 1,024 and an output of 4,096 records. The output is flushed after them, since a write may fail as
+// late as that.
+fn print<W: Write>(out: &mut W, file: &[u8]) -> io::Result<()> {
     let mut table = [0u32; 16384];
     let mut solutions = [0u32; 4096];
     let mut queue = [0u32; 2048];
@@ -139,23 +148,34 @@ fn print(file: &[u8]) -> bool {
     let begun = begin(file, &mut table, &mut solutions, &mut queue, &mut holes);
     let mut output = [0u32; 16384];
     let mut text = [0u8; 131072];
-    if !write_lines(begun, &table, &solutions, &holes, &mut output, &mut text) {
-        return false;
-    }
-    libc::close(STDOUT_FILENO) == 0
+    write_lines(
+        out,
+        begun,
+        &table,
+        &solutions,
+        &holes,
+        &mut output,
+        &mut text,
+    )?;
+    out.flush()
 }
 
 // The program. A file of 28,673 bytes is as long as any that is refused for its length.
 #[unsafe(no_mangle)]
-pub extern "C" fn tanczotka_program() -> i32 {
+pub extern "C" fn tanczotka_program(mut input: Stdin, mut out: Stdout, said: Stderr) -> i32 {
     let mut file = [0u8; 28673];
-    let Moved::Bytes(size) = read_all(&mut file) else {
-        os::fail(b"tanczotka: standard input could not be read");
-        return NOT_READ;
+    let size = match read_all(&mut input, &mut file) {
+        Moved::Bytes(size) => size,
+        Moved::Failed(why) => {
+            let _ = eprintln!(said; "tanczotka: standard input could not be read: {why}");
+            return NOT_READ;
+        }
     };
-    if print(&file[..size]) {
-        return PRINTED;
+    match print(&mut out, &file[..size]) {
+        Ok(()) => PRINTED,
+        Err(why) => {
+            let _ = eprintln!(said; "tanczotka: standard output could not be written: {why}");
+            NOT_WRITTEN
+        }
     }
-    os::fail(b"tanczotka: standard output could not be written");
-    NOT_WRITTEN
 }

@@ -1,4 +1,6 @@
 // A term checks at a type, and the lowest offending hole occurrence within is noted, in one descent.
+#![tactic(auto)]
+
 ghost use Rattle.std.specs.Prelude.{◌≡◌};
 ghost use Rattle.rules.specs.Lists.{enough};
 ghost use Rattle.rules.specs.Words.{HA, tag, is_type};
@@ -14,7 +16,7 @@ use rules::Found;
 use table::{HA, LA, NONE, read};
 
 // What the check of an argument list answers: it fails, or all but the last argument are checked, and that one is to be checked at this type.
-#[derive(Drop)]
+#[derive(Clone, Copy)]
 pub enum Checked {
     Fails,
     ButLast { last: u32, ty: u32 },

@@ -4,7 +4,7 @@ use mathlib.Core.Path.{◌≡◌, sym, ◌∙◌}
 use mathlib.Core.List.{List}
 use native.Mathlib.Omega.{arith}
 use lib.ListN.{length}
-use Rattle.rules.specs.Words.{NONE, tag, field_b, LA}
+use Rattle.rules.specs.Words.{NONE, field_b, LA}
 use Rattle.laws.specs.Lists.{size, size_real, size_below}
 use Rattle.table.specs.declared.Record.{Record}
 use Rattle.table.specs.Reading.{IsRecord}

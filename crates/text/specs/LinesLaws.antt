@@ -1,5 +1,5 @@
 -- The text of a hole's line is the document's.
-use Rattle.std.specs.Prelude.{ℕ, ◌-◌, ◌≡◌, [], ◌∷◌, ◌++◌}
+use Rattle.std.specs.Prelude.{ℕ, ◌≡◌, [], ◌∷◌, ◌++◌}
 use Rattle.std.proofs.Common.{ap, append_assoc}
 use Rattle.rules.specs.Text.{Bytes, decimal, shown_text, hole_line}
 use Rattle.rules.specs.Show.{Shown}

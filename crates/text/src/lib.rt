@@ -1,4 +1,6 @@
 // The printed notation, written into a lent buffer of bytes.
+#![tactic(auto)]
+
 ghost use Rattle.std.specs.Prelude.{◌≡◌, [], ◌∷◌};
 ghost use Rattle.rules.specs.Lists.{enough};
 ghost use Rattle.rules.specs.Text.{decimal as decimalOf, printed, reply_line};

@@ -1,5 +1,7 @@
 // Typing (6) and patterns (7) in one descent: the lowest equation with a side that does not check, otherwise the lowest offending
 // hole occurrence.
+#![tactic(auto)]
+
 ghost use Rattle.typing.specs.Asks.{EquationAsks, JudgeAsks, Offends};
 ghost use Rattle.typing.specs.Judging.{Judges};
 
@@ -7,7 +9,7 @@ use table::{NONE, read};
 use terms::check_term;
 
 // All equations check and all hole occurrences are patterns; or the lowest ill-typed equation, or the lowest offending occurrence.
-#[derive(Drop)]
+#[derive(Clone, Copy)]
 pub enum Judged {
     Fine,
     IllTyped(u32),

@@ -16,7 +16,7 @@ use Rattle.store.specs.declared.Walked.{Walked}
 use Rattle.table.specs.declared.Record.{Record}
 use Rattle.table.specs.Reading.{IsRecord}
 use Rattle.places.specs.declared.Map.{Map}
-use Rattle.rules.specs.Words.{NONE, tag, field_a, field_b, elements, arguments, variables, LA, VA, HA}
+use Rattle.rules.specs.Words.{NONE, field_a, field_b, elements, arguments, variables, LA, VA, HA}
 use Rattle.rules.specs.Store.{push_occurrence}
 use Rattle.laws.specs.Lists.{size}
 use Rattle.invariants.specs.Grow.{all_map}

@@ -1,4 +1,6 @@
 // The walk of the other side for the hole that is solved, and copying, which is a walk for no hole.
+#![tactic(auto)]
+
 ghost use Rattle.std.specs.Prelude.{◌≡◌, ◌<◌, length};
 ghost use Rattle.rules.specs.Walk.{assign as assignOf};
 ghost use Rattle.store.specs.Said.{Does²};

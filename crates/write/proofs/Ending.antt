@@ -34,13 +34,13 @@ module _ (ws : List ℕ) (n : ℕ) (bs : List ℕ) where
   abbrev pub Ends : List ℕ → Reply → Type 0
   Ends bs₁ said = write ws n bs ≡ record { file = bs₁; said = said }
 
-  pub above_most : (x : Reply) → unwriting TooMany ≡ x → 2048 < n → Ends bs x
+  pub above_most : 2048 < n → write ws n bs ≡ record { file = bs; said = unwriting TooMany }
   unfolding write either
-  above_most x e h = go (ltb (records ws) n) refl
+  above_most h = go (ltb (records ws) n) refl
     where
-      go : (b : Bool) → ltb (records ws) n ≡ b → Ends bs x
-      go true q = rw (q, write, e)
-      go false q = rw (q, lt-ltb _ _ h, write, e)
+      go : (b : Bool) → ltb (records ws) n ≡ b → write ws n bs ≡ record { file = bs; said = unwriting TooMany }
+      go true q = rw (q, write)
+      go false q = rw (q, lt-ltb _ _ h, write)
 
   module _ (few : n ≤ 2048) where
     pub above_table : (x : Reply) → unwriting TooMany ≡ x → length ws / 4 < n → Ends bs x

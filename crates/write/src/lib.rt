@@ -1,4 +1,6 @@
 // Writing the first n records of a table to a file of records of 14 bytes: the two-byte mark, then a, b, c little-endian.
+#![tactic(auto)]
+
 ghost use Rattle.std.specs.Prelude.{◌≡◌, ◌++◌, ◌+◌, ◌*◌, ◌<◌, ◌≤◌, length, drop};
 ghost use Rattle.std.proofs.lemmas.List.Edits.{sets};
 ghost use Rattle.rules.specs.Answers.{reply as replyOf, unwriting as unwritingOf};
@@ -146,8 +148,9 @@ fn unwriting(unwritten: Unwritten) -> Reply
 }
 
 // The first n records of a table are written to a file: 4, then 5, then 14, with nothing written in each case; bytes past the file stay.
+#[tactic(auto, using(crate::proofs::Ending::above_most))]
 pub fn write(table: &[u32], n: usize, file: &mut [u8]) -> Reply
-    ensures { writeOf table.now n file.entry.now ≡ record { file = file.exit.now; said = result } }
+    ensures { writeOf table.now n file.old ≡ record { file = file.new; said = result } }
 {
     if 2048 < n {
         return unwriting(Unwritten::TooMany);

@@ -1,0 +1,8 @@
+use Rattle.checks.proofs.Refusals.{hole_within, hole_past}
+use Rattle.checks.proofs.is_hole.Goals as goal
+
+pub returns-then-at-n : goal.returns-then-at-n
+returns-then-at-n c = search hole_within
+
+pub returns : goal.returns
+returns c = search hole_past

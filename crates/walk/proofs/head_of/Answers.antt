@@ -1,0 +1,15 @@
+use Rattle.walk.proofs.Head.{head-placed, head_lost, head_constant}
+use borrow.Author.Rules.{rules}
+use Rattle.walk.proofs.head_of.Goals as goal
+
+pub place_of-requires : goal.place_of-requires
+place_of-requires c = (search rules, search c.requires.1)
+
+pub returns-in_default : goal.returns-in_default
+returns-in_default c = search head_lost
+
+pub returns-then-rec-eq-VA : goal.returns-then-rec-eq-VA
+returns-then-rec-eq-VA c = search head-placed
+
+pub returns : goal.returns
+returns c = search head_constant
