@@ -1,2 +1,2 @@
-// The crate is its specs/: the theory over trees. It has no code.
+// The crate is its specs/ and proofs/: the theory over trees. It has no code.
 #![tactic(auto)]
