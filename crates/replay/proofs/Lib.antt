@@ -1,0 +1,1 @@
+pub mod Parts  -- the first words of a cleared array
