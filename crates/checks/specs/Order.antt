@@ -1,6 +1,5 @@
 -- Answers 4 to 7 in their order, otherwise 0.
-use Rattle.std.specs.Prelude.{ℕ, true, false, List, eqb, ltb}
-use Rattle.rules.specs.declared.Found.TheVariants.{At, Nowhere}
+use Rattle.std.specs.Prelude.{ℕ, true, false, List, eqb, ltb, Some, None}
 use Rattle.rules.specs.declared.Refused.TheVariants.{NoRoom, Broken, IllTyped, NoPattern}
 use Rattle.rules.specs.declared.Reply.{Reply}
 use Rattle.rules.specs.Words.{NONE}
@@ -21,10 +20,10 @@ checked ws n =
     elim (ltb (records ws) n) [
       | true ↦ refusing NoRoom
       | false ↦ elim (broken ws n) [
-        | At r ↦ refusing (Broken r)
-        | Nowhere ↦ elim (ill_typed ws n) [
-          | At r ↦ refusing (IllTyped r)
-          | Nowhere ↦ elim (eqb (no_pattern ws n) NONE) [ false ↦ refusing (NoPattern (no_pattern ws n)) | true ↦ reply 0 0 0 ]
+        | Some r ↦ refusing (Broken r)
+        | None ↦ elim (ill_typed ws n) [
+          | Some r ↦ refusing (IllTyped r)
+          | None ↦ elim (eqb (no_pattern ws n) NONE) [ false ↦ refusing (NoPattern (no_pattern ws n)) | true ↦ reply 0 0 0 ]
         ]
       ]
     ]

@@ -6,7 +6,7 @@ ghost use Rattle.std.specs.Prelude.{◌*◌, ◌≤◌, length};
 
 use checks::check;
 use std::io::{Read, Write};
-use stored::{PROBLEMS, fill, read_end, read_head, read_words, word};
+use stored::{Stopped, fill, read_head, read_words, take_problems, word};
 
 // One line; what can not be written is left out.
 fn print<W: Write>(out: &mut W, answer: u32, place: u32) {
@@ -22,39 +22,21 @@ fn check_words<W: Write>(out: &mut W, bytes: &[u8], n: usize, words: &mut [u32])
     print(out, reply.answer, reply.place);
 }
 
-// A problem of so many words is answered from its bytes.
-fn answer<W: Write>(out: &mut W, bytes: &[u8; 80000], n: usize, count: usize)
-    requires { count ≤ 20000 }
-{
-    let mut words = [0u32; 20000];
-    check_words(out, bytes, n, &mut words[..count]);
-}
-
-// One problem is read and answered; false at the end of the input, and where it can not be read, which is said.
-fn problem<R: Read, W: Write>(input: &mut R, out: &mut W) -> bool {
+// One problem is read and answered; false at the end of the input.
+fn problem<R: Read, W: Write>(input: &mut R, out: &mut W) -> Result<bool, Stopped> {
     let mut head = [0u8; 8];
-    if !read_head(input, out, &mut head) {
-        return false;
+    if !read_head(input, &mut head)? {
+        return Ok(false);
     }
     let n = word(&head, 0) as usize;
     let count = word(&head, 1) as usize;
     let mut bytes = [0u8; 80000];
-    if !read_words(input, out, &mut bytes, count) {
-        return false;
-    }
-    answer(out, &bytes, n, count);
-    true
+    read_words(input, &mut bytes, count)?;
+    let mut words = [0u32; 20000];
+    check_words(out, &bytes, n, &mut words[..count]);
+    Ok(true)
 }
 
 fn main(rt: HostRuntime) {
-    let mut input = rt.stdin();
-    let mut out = rt.stdout();
-    let mut left = PROBLEMS;
-    while 0 < left {
-        if !problem(&mut input, &mut out) {
-            return;
-        }
-        left -= 1;
-    }
-    read_end(&mut input, &mut out);
+    take_problems(&mut rt.stdin(), &mut rt.stdout(), problem);
 }

@@ -1,26 +1,29 @@
 -- File records written to a table one after another.
+use Rattle.std.specs.Prelude.{Option, ℕ, Some, None}
+use Rattle.std.specs.Option.{unwrap_or}
 use Prim.Native.Nat.{ℕ, suc, ◌+◌, ◌*◌, ◌<◌, ◌≤◌}
 use mathlib.Core.Path.{◌≡◌, refl}
 use mathlib.Core.List.{List, ◌++◌}
 use native.Mathlib.Omega.{arith}
 use lib.ListN.{length, set, drop}
-use Rattle.rules.specs.declared.Found.{Found}
 use Rattle.rules.specs.File.{marked, word, tag_word, file_words}
 use Rattle.laws.specs.Rows.{rows_more}
 use Rattle.laws.specs.FileRows.{record_words, file_words-rows}
 use Rattle.file.specs.Writing.{Fitting, stored}
 
-pub fits_next : (bs ws₀ ws : List ℕ) (r n : ℕ) → r < n → length ws ≡ length ws₀ → Fitting bs ws₀ n → Fitting bs ws (r + 1)
-fits_next bs ws₀ ws r n h e f = record { source = omega arith; room = omega arith }
+tag_or : (f : Option ℕ) → tag_word f ≡ unwrap_or f 0
+unfolding tag_word
+tag_or (Some k) = refl
+tag_or None = refl
 
-pub stored_by : (bs ws : List ℕ) (r : ℕ) (f : Found) (t a b c : ℕ) → marked bs r ≡ f → tag_word f ≡ t → word bs (14 * r + 2) ≡ a → word bs (14 * r + 6) ≡ b
+pub stored_by : (bs ws : List ℕ) (r : ℕ) (f : Option ℕ) (t a b c : ℕ) → marked bs r ≡ f → t ≡ unwrap_or f 0 → word bs (14 * r + 2) ≡ a → word bs (14 * r + 6) ≡ b
     → word bs (14 * r + 10) ≡ c → stored bs r ws ≡ set (set (set (set ws (4 * r) t) (4 * r + 1) a) (4 * r + 2) b) (4 * r + 3) c
 unfolding stored
 stored_by bs ws r f t a b c p q ea eb ec =
     let one : 4 * r + 1 ≡ suc (4 * r) = omega arith in
     let two : 4 * r + 2 ≡ suc (suc (4 * r)) = omega arith in
     let three : 4 * r + 3 ≡ suc (suc (suc (4 * r))) = omega arith in
-    rw (p, q, ea, eb, ec, one, two, three)
+    rw (p, tag_or f, ← q, ea, eb, ec, one, two, three)
 
 -- one record more is written
 pub stored_more : (bs ws₀ ws ws₁ : List ℕ) (r n : ℕ) → r < n → Fitting bs ws₀ n → ws ≡ file_words bs 0 r ++ drop (4 * r) ws₀
@@ -30,6 +33,3 @@ stored_more bs ws₀ ws ws₁ r n h f e s =
     let room = f.room in
     let fit : 4 * (r + 1) ≤ length ws₀ = omega arith in
     rw (← s, e, file_words-rows bs 0 r, file_words-rows bs 0 (r + 1)) (rows_more (record_words bs) 4 (λ j. refl) ws₀ r fit)
-
-pub all-stored : (bs ws₀ ws : List ℕ) (r n : ℕ) → r ≤ n → n ≤ r → ws ≡ file_words bs 0 r ++ drop (4 * r) ws₀ → ws ≡ file_words bs 0 n ++ drop (4 * n) ws₀
-all-stored bs ws₀ ws r n g h e = let k : r ≡ n = omega arith in rw k at e

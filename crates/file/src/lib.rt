@@ -3,36 +3,31 @@
 
 ghost use Rattle.std.specs.Prelude.{◌≡◌, not, ◌++◌, ◌+◌, ◌*◌, ◌<◌, ◌≤◌, length, drop};
 ghost use Rattle.rules.specs.Lists.{lowest};
-ghost use Rattle.rules.specs.Answers.{reply as replyOf, unreading as unreadingOf};
-ghost use Rattle.rules.specs.File.{tag_of, marked, word, is_known, tag_word, file_words, read as read_of};
+ghost use Rattle.rules.specs.Answers.{unreading as unreadingOf};
+ghost use Rattle.rules.specs.File.{tag_of, marked, word, is_known, file_words, read as read_of};
 ghost use Rattle.file.specs.Writing.{stored, Fitting};
+ghost use Rattle.file.specs.Replied.{replied};
 
-use rules::{Found, Reply, Unread};
+use rules::{Reply, Unread};
+use table::reply;
 
-// A byte as a wider number.
-fn wide(x: u8) -> u32
-    ensures { (result ≡ x) × (result < 256) }
-{
-    x as u32
-}
-
-// The tag of a mark of two bytes, if it is known; each number below is two letters of the table of marks.
-fn tag_of_mark(x: u8, y: u8) -> Found
+// The tag of a mark of two bytes, if it is known; no `TryFrom`, since a tag is a plain number.
+#[tactic(auto, using(crate::proofs::Marks::tag_known, crate::proofs::Marks::tag_unknown), unfolding(rules::specs::File::tag_of, rules::specs::File::marks, rules::specs::Lists::first, rules::specs::Lists::both))]
+fn tag_of_mark(x: u8, y: u8) -> Option<u32>
     ensures { tag_of x y ≡ result }
 {
-    let mark = 256 * wide(x) + wide(y);
-    match mark {
-        0x4254 => Found::At(table::BT),
-        0x4152 => Found::At(table::AR),
-        0x4B4F => Found::At(table::KO),
-        0x484F => Found::At(table::HO),
-        0x4345 => Found::At(table::CE),
-        0x4C41 => Found::At(table::LA),
-        0x4341 => Found::At(table::CA),
-        0x5641 => Found::At(table::VA),
-        0x4841 => Found::At(table::HA),
-        0x4551 => Found::At(table::EQ),
-        _ => Found::Nowhere,
+    match (x, y) {
+        (b'B', b'T') => Some(table::BT),
+        (b'A', b'R') => Some(table::AR),
+        (b'K', b'O') => Some(table::KO),
+        (b'H', b'O') => Some(table::HO),
+        (b'C', b'E') => Some(table::CE),
+        (b'L', b'A') => Some(table::LA),
+        (b'C', b'A') => Some(table::CA),
+        (b'V', b'A') => Some(table::VA),
+        (b'H', b'A') => Some(table::HA),
+        (b'E', b'Q') => Some(table::EQ),
+        _ => None,
     }
 }
 
@@ -41,12 +36,12 @@ pub fn word_at(file: &[u8], i: usize) -> u32
     requires { i + 3 < length file.now }
     ensures { word file.now i ≡ result }
 {
-    let high = wide(file[i + 2]) + 256 * wide(file[i + 3]);
-    wide(file[i]) + 256 * (wide(file[i + 1]) + 256 * high)
+    u32::from_le_bytes([file[i], file[i + 1], file[i + 2], file[i + 3]])
 }
 
 // The tag of file record r, if its mark is known.
-fn tag_at(file: &[u8], r: u32) -> Found
+#[tactic(auto, unfolding(rules::specs::File::marked))]
+fn tag_at(file: &[u8], r: u32) -> Option<u32>
     requires { 14 * r + 1 < length file.now }
     ensures { marked file.now r ≡ result }
 {
@@ -54,32 +49,17 @@ fn tag_at(file: &[u8], r: u32) -> Found
     tag_of_mark(file[i], file[i + 1])
 }
 
-// The tag word of a mark.
-#[tactic(auto, unfolding(rules::specs::File::tag_word))]
-fn tag_word(found: Found) -> u32
-    ensures { tag_word found ≡ result }
-{
-    match found {
-        Found::At(k) => k,
-        Found::Nowhere => 0,
-    }
-}
-
 // The lowest of the first n file records whose mark is unknown.
-fn lowest_unknown(file: &[u8], n: u32) -> Found
+fn lowest_unknown(file: &[u8], n: u32) -> Option<u32>
     requires { 14 * n ≤ length file.now }
     ensures { lowest n (λ r. not (is_known (marked file.now r))) ≡ result }
 {
-    let mut r: u32 = 0;
-    while r < n {
-        match tag_at(file, r) {
-            Found::At(_) => {
-                r += 1;
-            }
-            Found::Nowhere => return Found::At(r),
+    for r in 0..n {
+        if tag_at(file, r).is_none() {
+            return Some(r);
         }
     }
-    Found::Nowhere
+    None
 }
 
 // File record r becomes record r of the table.
@@ -89,36 +69,23 @@ fn write_record(file: &[u8], table: &mut [u32], r: u32)
 {
     let i = 4 * (r as usize);
     let at = 14 * (r as usize);
-    table[i] = tag_word(tag_at(file, r));
+    table[i] = tag_at(file, r).unwrap_or(0);
     table[i + 1] = word_at(file, at + 2);
     table[i + 2] = word_at(file, at + 6);
     table[i + 3] = word_at(file, at + 10);
 }
 
-// The first n file records become the first n records of the table.
+// The first n file records become the first n records of the table. Its like in `write` lends the other slice; what they share is one line.
 fn write_records(file: &[u8], table: &mut [u32], n: u32)
     requires { Fitting file.now table.old n }
     ensures { table.new ≡ file_words file.now 0 n ++ drop (4 * n) table.old }
 {
-    let mut written: u32 = 0;
-    while written < n {
+    for written in 0..n {
         write_record(file, table, written);
-        written += 1;
     }
 }
 
-// A reply with nothing used.
-fn reply(answer: u32, place: u32) -> Reply
-    ensures { replyOf answer place 0 ≡ result }
-{
-    Reply {
-        answer,
-        place,
-        used: 0,
-    }
-}
-
-// The reply to each file that is not read.
+// The reply to each file that is not read; no `From`, since both its types are of crate rules, which has no function.
 fn unreading(unread: Unread) -> Reply
     ensures { unreadingOf unread ≡ result }
 {
@@ -129,30 +96,38 @@ fn unreading(unread: Unread) -> Reply
     }
 }
 
+// The number of records of a file that is read; only its records are written.
+fn records_of(file: &[u8], table: &mut [u32]) -> Result<u32, Unread>
+    ensures { read_of file.now table.old ≡ record { table = table.new; said = replied result } }
+{
+    let len = file.len();
+    if 28672 < len {
+        return Err(Unread::BadLength);
+    }
+    if len % 14 != 0 {
+        return Err(Unread::BadLength);
+    }
+    let n = (len / 14) as u32;
+    if table.len() / 4 < n as usize {
+        return Err(Unread::SmallTable);
+    }
+    if let Some(r) = lowest_unknown(file, n) {
+        return Err(Unread::UnknownMark(r));
+    }
+    write_records(file, table, n);
+    Ok(n)
+}
+
 // A file is read into a table: 12, then 4, then 13; successful reading writes only the file's n records.
 pub fn read(file: &[u8], table: &mut [u32]) -> Reply
     ensures { read_of file.now table.old ≡ record { table = table.new; said = result } }
 {
-    let len = file.len();
-    if 28672 < len {
-        return unreading(Unread::BadLength);
-    }
-    if len % 14 != 0 {
-        return unreading(Unread::BadLength);
-    }
-    let n = (len / 14) as u32;
-    if table.len() / 4 < n as usize {
-        return unreading(Unread::SmallTable);
-    }
-    match lowest_unknown(file, n) {
-        Found::At(r) => unreading(Unread::UnknownMark(r)),
-        Found::Nowhere => {
-            write_records(file, table, n);
-            Reply {
-                answer: 0,
-                place: 0,
-                used: n,
-            }
-        }
+    match records_of(file, table) {
+        Ok(n) => Reply {
+            answer: 0,
+            place: 0,
+            used: n,
+        },
+        Err(unread) => unreading(unread),
     }
 }

@@ -1,12 +1,14 @@
 -- The binders on the stack: one more is pushed, one is read.
+use Rattle.std.specs.Prelude.{Some, None}
 use Prim.Native.Nat.{ℕ, zero, suc, ◌+◌, ◌-◌, ◌<◌, ◌≤◌}
-use mathlib.Core.Path.{◌≡◌, refl, ap}
+use mathlib.Core.Path.{◌≡◌, refl, sym, ap, ◌∙◌}
 use mathlib.Core.List.{List, ◌∷◌}
 use native.Mathlib.Omega.{arith}
 use native.Mathlib.Numerals.{add-one}
 use lib.ListN.{length, get_or, set}
 use lib.Seq.{get_or-set_same, get_or-set_other}
-use Rattle.heads.specs.Stack.{binders}
+use Rattle.heads.specs.Stack.{binders, type_of}
+use Rattle.heads.specs.HeadsLaws.{type_bound, type_free}
 
 pub binders_above : (st : List ℕ) (d k v : ℕ) → d ≤ k → binders (set st k v) d ≡ binders st d
 unfolding binders
@@ -29,3 +31,12 @@ unfolding binders
 binders_at st zero k h = absurd (omega arith)
 binders_at st (suc d) zero h = let q : suc d - 1 - 0 ≡ d = omega arith in rw q
 binders_at st (suc d) (suc k) h = let q : suc d - 1 - suc k ≡ d - 1 - k = omega arith in rw (q, binders_at st d k (omega arith))
+
+module _ (st : List ℕ) (d v : ℕ) where
+  pub type-above : (1 + v ≤ d → ⊥) → None ≡ type_of (binders st d) v
+  type-above z = sym (type_free (binders st d) v (rw binders-count (omega arith)))
+
+  pub type_at : (k : ℕ) → 1 + v ≤ d → k ≡ d - (1 + v) → Some (get_or st k 0) ≡ type_of (binders st d) v
+  type_at k h e =
+      let q : k ≡ d - 1 - v = omega arith in
+      rw q (ap Some (sym (binders_at st d v (omega arith))) ∙ sym (type_bound (binders st d) v (rw binders-count (omega arith))))

@@ -1,8 +1,6 @@
 -- What the functions of this crate answer.
-use Rattle.std.specs.Prelude.{ℕ, ◌+◌, ◌≤◌, ◌≡◌, List, ◌∷◌, Bool, true, false, length, get_or, eqb, ltb}
+use Rattle.std.specs.Prelude.{ℕ, ◌+◌, ◌≤◌, ◌≡◌, List, ◌∷◌, Bool, true, false, length, get_or, eqb, ltb, Option, Some, None}
 use Rattle.table.specs.declared.Record.{Record}
-use Rattle.rules.specs.declared.Found.{Found}
-use Rattle.rules.specs.declared.Found.TheVariants.{At, Nowhere}
 use Rattle.rules.specs.Lists.{both, enough}
 use Rattle.rules.specs.Words.{AR, VA, tag, field_a, field_b, bare}
 use Rattle.rules.specs.Typing.{final_type, domains}
@@ -14,8 +12,8 @@ unfoldable pub named : List ℕ → List ℕ → ℕ → ℕ → Bool
 named ws ctx x t = both (bare ws x) (both (ltb (field_a ws x) (length ctx)) (eqb (get_or ctx (field_a ws x) 0) t))
 
 -- the type of a rigid head: a bound variable's, or a constant's
-unfoldable pub head_type : List ℕ → List ℕ → Record → Found
-head_type ws ctx x = elim (eqb x.tag VA) [ true ↦ type_of ctx x.a | false ↦ At (field_a ws x.a) ]
+unfoldable pub head_type : List ℕ → List ℕ → Record → Option ℕ
+head_type ws ctx x = elim (eqb x.tag VA) [ true ↦ type_of ctx x.a | false ↦ Some (field_a ws x.a) ]
 
 -- a head's final type, and how many arguments it asks
 pub record IsFinal (ws : List ℕ) (ty : ℕ) (x : Final) : Type 0 where
@@ -30,6 +28,6 @@ pub record Bound (ws st : List ℕ) (d ty : ℕ) (st₁ : List ℕ) (body : ℕ)
   pub body_is : body ≡ field_b ws ty
 
 -- what a lambda's binder leaves: the type asked of the body, or, where the type asked is no arrow, nothing
-unfoldable pub Binds : List ℕ → List ℕ → ℕ → ℕ → List ℕ → Found → Type 0
-Binds ws st d ty st₁ (At body) = Bound ws st d ty st₁ body
-Binds ws st d ty st₁ Nowhere = (tag ws ty ≡ AR → ⊥) × (st₁ ≡ st)
+unfoldable pub Binds : List ℕ → List ℕ → ℕ → ℕ → List ℕ → Option ℕ → Type 0
+Binds ws st d ty st₁ (Some body) = Bound ws st d ty st₁ body
+Binds ws st d ty st₁ None = (tag ws ty ≡ AR → ⊥) × (st₁ ≡ st)

@@ -7,7 +7,6 @@ ghost use Rattle.laws.specs.Places.{TypeAt};
 ghost use Rattle.heads.specs.Stack.{binders, type_of};
 ghost use Rattle.heads.specs.Heads.{named, head_type, IsFinal, Binds};
 
-use rules::Found;
 use table::{AR, NONE, Record, VA, Variable, read};
 
 // A head's final type, and how many arguments it asks.
@@ -43,16 +42,12 @@ pub fn final_type(table: &[u32], ty: u32) -> Final
 }
 
 // The type of a bound variable.
-fn type_of(stack: &[u16], depth: usize, v: Variable) -> Found
+fn type_of(stack: &[u16], depth: usize, v: Variable) -> Option<u32>
     requires { depth ≤ length stack.now }
     ensures { result ≡ type_of (binders stack.now depth) v.0 }
 {
-    let k = v.0 as usize;
-    if k < depth {
-        Found::At(stack[depth - 1 - k] as u32)
-    } else {
-        Found::Nowhere
-    }
+    let at = depth.checked_sub(1 + v.0 as usize)?;
+    Some(stack[at] as u32)
 }
 
 // A hole's argument is a bare variable of exactly the type asked.
@@ -61,20 +56,14 @@ pub fn names(table: &[u32], stack: &[u16], depth: usize, x: u32, ty: u32) -> boo
     ensures { result ≡ named table.now (binders stack.now depth) x ty }
 {
     let y = read(table, x);
-    if y.tag != VA {
+    if y.tag != VA || y.b != NONE {
         return false;
     }
-    if y.b != NONE {
-        return false;
-    }
-    let Found::At(t) = type_of(stack, depth, Variable(y.a)) else {
-        return false;
-    };
-    t == ty
+    type_of(stack, depth, Variable(y.a)) == Some(ty)
 }
 
 // The type of a rigid head: a bound variable's, or a constant's.
-pub fn head_type(table: &[u32], stack: &[u16], depth: usize, x: Record) -> Found
+pub fn head_type(table: &[u32], stack: &[u16], depth: usize, x: Record) -> Option<u32>
     requires { (depth ≤ length stack.now) × ((x.tag ≡ VA → ⊥) → 4 * x.a + 3 < length table.now) }
     ensures { result ≡ head_type table.now (binders stack.now depth) x }
 {
@@ -82,18 +71,18 @@ pub fn head_type(table: &[u32], stack: &[u16], depth: usize, x: Record) -> Found
         return type_of(stack, depth, Variable(x.a));
     }
     let constant = read(table, x.a);
-    Found::At(constant.a)
+    Some(constant.a)
 }
 
 // A lambda's binder goes on the stack, if the type asked is an arrow: the type asked of the body.
-pub fn bind(table: &[u32], stack: &mut [u16], depth: usize, ty: u32) -> Found
+pub fn bind(table: &[u32], stack: &mut [u16], depth: usize, ty: u32) -> Option<u32>
     requires { (TypeAt table.now ty) × (depth < length stack.old) }
     ensures { Binds table.now stack.old depth ty stack.new result }
 {
     let x = read(table, ty);
     if x.tag != AR {
-        return Found::Nowhere;
+        return None;
     }
     stack[depth] = x.a as u16;
-    Found::At(x.b)
+    Some(x.b)
 }

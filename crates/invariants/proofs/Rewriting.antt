@@ -1,11 +1,9 @@
 -- The invariant is kept by a term written anew, and fuel suffices, whatever happens at a hole, as long as that is so there.
-use Rattle.std.specs.Prelude.{ℕ, suc, ◌+◌, ◌<◌, ◌≤◌, ◌≡◌, length}
+use Rattle.std.specs.Prelude.{ℕ, suc, ◌+◌, ◌<◌, ◌≤◌, ◌≡◌, length, Option, Some, None}
 use Rattle.std.proofs.Math.Path.{refl}
 use mathlib.Core.List.{List, [], ◌∷◌}
 use Rattle.std.proofs.Common.{arith, le_refl}
 use Rattle.std.proofs.Math.Decide.{ℕ_discrete}
-use Rattle.rules.specs.declared.Found.{Found}
-use Rattle.rules.specs.declared.Found.TheVariants.{At, Nowhere}
 use Rattle.rules.specs.Words.{NONE, tag, field_a, field_b, elements, arguments, CE, LA, CA, VA, HA}
 use Rattle.rules.specs.Store.{Store, fail, ◌>>=◌, push}
 use Rattle.rules.specs.Map.{Map, place_of}
@@ -121,7 +119,7 @@ module _ (barred : ℕ → Type 0) (R n b lo most : ℕ) (Left : ℕ → ℕ →
         headed t a lt al ht th =
             head_grows stays_left f w keeps m d h.top k h.low h.fits fuel t a (elements s.words (field_b s.words r)) s home h.fine h.from h.since (args lt) (rule.few lt h.sub.term.high) al ht th
 
-        go : Dec (tag s.words r ≡ LA) → Dec (tag s.words r ≡ CA) → Dec (tag s.words r ≡ VA) → (p : Found) → place_of m d (field_a s.words r) ≡ p
+        go : Dec (tag s.words r ≡ LA) → Dec (tag s.words r ≡ CA) → Dec (tag s.words r ≡ VA) → (p : Option ℕ) → place_of m d (field_a s.words r) ≡ p
             → Grows barred (Written b lo) R n home s (write_term on_hole w R s.words m d r s)
         go (yes t) c e p q =
             let x = part (field_a s.words r) (rule.lam t) in
@@ -134,8 +132,8 @@ module _ (barred : ℕ → Type 0) (R n b lo most : ℕ) (Left : ℕ → ℕ →
             let a = rule.low (omega arith) (omega arith) in
             let lt = h.sub.below in
             rw (form_7 _ _ c, write_term) (headed CA (field_a s.words r) (omega arith) (omega arith) (omega arith) (omega arith))
-        go (no t) (no c) (yes e) Nowhere q = rw (form_8 _ _ e, write_term, q) (fine_stopped R n home s h.fine)
-        go (no t) (no c) (yes e) (At v) q =
+        go (no t) (no c) (yes e) None q = rw (form_8 _ _ e, write_term, q) (fine_stopped R n home s h.fine)
+        go (no t) (no c) (yes e) (Some v) q =
             let a = place_low m d h.top (field_a s.words r) v h.low q in
             let fi = h.fits in
             let si = h.since in

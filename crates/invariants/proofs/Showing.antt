@@ -1,14 +1,12 @@
 -- Showing an answer leaves the solutions alone, writes an output of terms, and its fuel suffices.
 use Prim.Native.Nat.{ℕ, zero, suc, ◌+◌, ◌<◌, ◌≤◌}
-use Rattle.std.specs.Prelude.{◌≡◌}
+use Rattle.std.specs.Prelude.{◌≡◌, Option, ℕ, Some, None}
 use Rattle.std.proofs.Math.Path.{refl, ap}
 use Rattle.std.proofs.Common.{sym, ◌∙◌, le_refl, eq-eqb, ne_eqb}
 use mathlib.Core.List.{List, [], ◌∷◌}
 use native.Mathlib.Omega.{arith}
 use Rattle.std.proofs.Math.Decide.{ℕ_discrete}
 use Rattle.std.proofs.Math.ListN.{get_or}
-use Rattle.rules.specs.declared.Found.{Found}
-use Rattle.rules.specs.declared.Found.TheVariants.{At, Nowhere}
 use Rattle.rules.specs.Lists.{enough}
 use Rattle.rules.specs.Words.{NONE, tag, field_a, field_b, elements, arguments, variables, CA, VA, LA, HA}
 use Rattle.rules.specs.Store.{Store, fail, ◌>>=◌, push, solved, solution}
@@ -72,7 +70,7 @@ module _ (R n O : ℕ) (home : ℕ → ℕ) (t : Store) (fine : Fine R n home t)
           (all_map (Sub t.words home (home r) r) (Sub t.words home F r) (λ x p. sub_less t.words home (home r) F r r x p up (le_refl _)) (elements t.words (field_b t.words r)) (rule.app lo sub.term.high).all))
           λ s₁ x e₁ o₁ h₁ p₁. push-applied O t.solutions s₁ o₁ h₁ s.used k a x lk kh p₁
 
-      go : Dec (tag t.words r ≡ LA) → Dec (tag t.words r ≡ CA) → Dec (tag t.words r ≡ VA) → (p : Found) → place_of m d (field_a t.words r) ≡ p
+      go : Dec (tag t.words r ≡ LA) → Dec (tag t.words r ≡ CA) → Dec (tag t.words r ≡ VA) → (p : Option ℕ) → place_of m d (field_a t.words r) ≡ p
           → Writes O t.solutions (ARoot s.used) s (write_term (expand_hole w O t.words) w O t.words m d r s)
       go (yes i) c j p q =
           let b = rule.lam i in
@@ -81,8 +79,8 @@ module _ (R n O : ℕ) (home : ℕ → ℕ) (t : Store) (fine : Fine R n home t)
           (shows F m (d + 1) (field_a t.words r) s o e (sub_less t.words home (home r) F r t.used (field_a t.words r) b sub.up (omega arith)) (omega arith))
           λ s₁ x e₁ o₁ h₁ p₁. push_lambda O t.solutions s₁ o₁ h₁ s.used x p₁)
       go (no i) (yes c) j p q = rw (form_7 _ _ c, write_term) (headed CA (field_a t.words r) (omega arith) (omega arith) (omega arith))
-      go (no i) (no c) (yes j) Nowhere q = rw (form_8 _ _ j, write_term, q) tt
-      go (no i) (no c) (yes j) (At v) q = rw (form_8 _ _ j, write_term, q) (headed VA v (omega arith) (omega arith) (omega arith))
+      go (no i) (no c) (yes j) None q = rw (form_8 _ _ j, write_term, q) tt
+      go (no i) (no c) (yes j) (Some v) q = rw (form_8 _ _ j, write_term, q) (headed VA v (omega arith) (omega arith) (omega arith))
       go (no i) (no c) (no j) p q =
           let z : tag t.words r ≡ HA = omega arith in
           rw (form_9 _ _ z, write_term)

@@ -1,8 +1,6 @@
 -- What an admitted input is, and which answers refuse one.
-use Rattle.std.specs.Prelude.{ℕ, ◌≤◌, ◌≡◌, refl, List, Bool, true, false, length, eqb, ltb}
+use Rattle.std.specs.Prelude.{ℕ, ◌≤◌, ◌≡◌, refl, List, Bool, true, false, length, eqb, ltb, Option, Some, None}
 use Rattle.std.proofs.Common.{arith, ltb-false}
-use Rattle.rules.specs.declared.Found.{Found}
-use Rattle.rules.specs.declared.Found.TheVariants.{At, Nowhere}
 use Rattle.rules.specs.Lists.{either}
 use Rattle.rules.specs.Words.{NONE}
 use Rattle.rules.specs.Answers.{refusing, records}
@@ -28,13 +26,13 @@ pub refusal_says : (asked : Bool) (ws ss : List ℕ) (n : ℕ) → Says asked ws
 unfolding refusal either
 refusal_says asked ws ss n = go (ltb (records ws) n) refl (ltb (length ss) (records ws)) refl (broken ws n) refl asked refl (ill_typed ws n) refl (eqb (no_pattern ws n) NONE) refl
   where
-    go : (a : Bool) → ltb (records ws) n ≡ a → (b : Bool) → ltb (length ss) (records ws) ≡ b → (c : Found) → broken ws n ≡ c → (d : Bool) → asked ≡ d → (e : Found) → ill_typed ws n ≡ e
+    go : (a : Bool) → ltb (records ws) n ≡ a → (b : Bool) → ltb (length ss) (records ws) ≡ b → (c : Option ℕ) → broken ws n ≡ c → (d : Bool) → asked ≡ d → (e : Option ℕ) → ill_typed ws n ≡ e
         → (f : Bool) → eqb (no_pattern ws n) NONE ≡ f → Says asked ws ss n (refusal asked ws ss n)
     go true a b b₁ c c₁ d d₁ e e₁ f f₁ = rw (a, refusal) (omega arith, omega arith)
     go false a true b c c₁ d d₁ e e₁ f f₁ = rw (a, refusal, b) (omega arith, omega arith)
-    go false a false b (At x) c d d₁ e e₁ f f₁ = rw (a, refusal, b, c) (omega arith, omega arith)
-    go false a false b Nowhere c false d e e₁ f f₁ = rw (a, refusal, b, c, d) (omega arith, omega arith)
-    go false a false b Nowhere c true d (At x) e f f₁ = rw (a, refusal, b, c, d, e) (omega arith, omega arith)
-    go false a false b Nowhere c true d Nowhere e false f = rw (a, refusal, b, c, d, e, f) (omega arith, omega arith)
-    go false a false b Nowhere c true d Nowhere e true f =
+    go false a false b (Some x) c d d₁ e e₁ f f₁ = rw (a, refusal, b, c) (omega arith, omega arith)
+    go false a false b None c false d e e₁ f f₁ = rw (a, refusal, b, c, d) (omega arith, omega arith)
+    go false a false b None c true d (Some x) e f f₁ = rw (a, refusal, b, c, d, e) (omega arith, omega arith)
+    go false a false b None c true d None e false f = rw (a, refusal, b, c, d, e, f) (omega arith, omega arith)
+    go false a false b None c true d None e true f =
         rw (a, refusal, b, c, d, e, f) (record { is = refl; in_table = ltb-false _ _ a; held = ltb-false _ _ b; sound = broken_none ws n c })

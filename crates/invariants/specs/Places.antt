@@ -1,16 +1,14 @@
 -- How high a map leads, and how long it is.
-use Rattle.std.specs.Prelude.{ℕ, suc, ◌+◌, ◌-◌, ◌<◌, ◌≤◌, ◌≡◌, refl, List, [], ◌∷◌, length}
+use Rattle.std.specs.Prelude.{ℕ, suc, ◌+◌, ◌-◌, ◌<◌, ◌≤◌, ◌≡◌, refl, List, [], ◌∷◌, length, Option, Some, None}
 use Rattle.std.proofs.Common.{arith, lt-ltb, le-ltb, eq-eqb, ne_eqb}
 use Rattle.std.proofs.Math.Decide.{dec_lt, ℕ_discrete}
-use Rattle.rules.specs.declared.Found.{Found}
-use Rattle.rules.specs.declared.Found.TheVariants.{At, Nowhere}
 use Rattle.rules.specs.Map.{Map, sources, targets, lookup, place_of, to_positions, to_variables, follow}
 use Rattle.invariants.specs.Floor.{All}
 use Rattle.invariants.specs.Grow.{all_map}
 
 -- the places lead no higher than T
 pub record Low (m : Map) (T : ℕ) : Type 0 where
-  pub low : (v w : ℕ) → lookup m v ≡ At w → w ≤ T
+  pub low : (v w : ℕ) → lookup m v ≡ Some w → w ≤ T
 
 low_none : (T : ℕ) → Low [] T
 unfolding lookup
@@ -20,25 +18,25 @@ low_more : (j y T : ℕ) (m : Map) → y ≤ T → Low m T → Low ((j, y) ∷ m
 unfolding lookup
 low_more j y T m h l = record { low = λ v w q. at v w q (ℕ_discrete j v) }
   where
-    at : (v w : ℕ) → lookup ((j, y) ∷ m) v ≡ At w → Dec (j ≡ v) → w ≤ T
-    at v w q (yes f) = let g : At y ≡ At w = (rw (eq-eqb _ _ f, lookup) at q) in let z : y ≡ w = cc in omega arith
-    at v w q (no f) = let g : lookup m v ≡ At w = (rw (ne_eqb _ _ f, lookup) at q) in l.low v w g
+    at : (v w : ℕ) → lookup ((j, y) ∷ m) v ≡ Some w → Dec (j ≡ v) → w ≤ T
+    at v w q (yes f) = let g : Some y ≡ Some w = (rw (eq-eqb _ _ f, lookup) at q) in let z : y ≡ w = cc in omega arith
+    at v w q (no f) = let g : lookup m v ≡ Some w = (rw (ne_eqb _ _ f, lookup) at q) in l.low v w g
 
-pub place_low : (m : Map) (d T v w : ℕ) → Low m T → place_of m d v ≡ At w → w ≤ T + d
+pub place_low : (m : Map) (d T v w : ℕ) → Low m T → place_of m d v ≡ Some w → w ≤ T + d
 unfolding place_of
 place_low m d T v w h e = go (dec_lt v d) (lookup m (v - d)) refl
   where
-    go : Dec (v < d) → (s : Found) → lookup m (v - d) ≡ s → w ≤ T + d
-    go (yes l) s p = let q : At v ≡ At w = (rw (lt-ltb _ _ l, place_of) at e) in let z : v ≡ w = cc in omega arith
-    go (no l) (At x) p =
+    go : Dec (v < d) → (s : Option ℕ) → lookup m (v - d) ≡ s → w ≤ T + d
+    go (yes l) s p = let q : Some v ≡ Some w = (rw (lt-ltb _ _ l, place_of) at e) in let z : v ≡ w = cc in omega arith
+    go (no l) (Some x) p =
         let le : d ≤ v = omega arith in
-        let q : At (x + d) ≡ At w = (rw (le-ltb _ _ le, place_of, p) at e) in
+        let q : Some (x + d) ≡ Some w = (rw (le-ltb _ _ le, place_of, p) at e) in
         let z : x + d ≡ w = cc in
         let k = h.low (v - d) x p in
         omega arith
-    go (no l) Nowhere p =
+    go (no l) None p =
         let le : d ≤ v = omega arith in
-        let q : Nowhere ≡ At w = (rw (le-ltb _ _ le, place_of, p) at e) in
+        let q : None ≡ Some w = (rw (le-ltb _ _ le, place_of, p) at e) in
         let z : ◌≡◌ {A = ℕ} 0 1 = cc in absurd (omega arith)
 
 -- what is said of a map that follows arguments
@@ -64,10 +62,10 @@ unfolding follow
 followed m d T j [] h = record { low = low_none (T + d); few = omega arith; to = tt; from = tt }
 followed m d T j (x ∷ xs) h = go (place_of m d x) refl (followed m d T (j + 1) xs h)
   where
-    go : (p : Found) → place_of m d x ≡ p → Followed (j + 1) (length xs) (T + d) (follow m d (j + 1) xs) → Followed j (suc (length xs)) (T + d) (follow m d j (x ∷ xs))
-    go Nowhere e ih =
+    go : (p : Option ℕ) → place_of m d x ≡ p → Followed (j + 1) (length xs) (T + d) (follow m d (j + 1) xs) → Followed j (suc (length xs)) (T + d) (follow m d j (x ∷ xs))
+    go None e ih =
         rw (e, follow) (record { low = ih.low; few = omega arith; to = ih.to; from = all_map (λ w. w < j + 1 + length xs) (λ w. w < j + suc (length xs)) (λ w l. omega arith) (sources (follow m d (j + 1) xs)) ih.from })
-    go (At y) e ih =
+    go (Some y) e ih =
         let y_low = place_low m d T x y h e in
         rw (e, follow)
         (record {

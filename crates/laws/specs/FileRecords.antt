@@ -1,13 +1,11 @@
 -- One record of a file: its bytes give its words back, and its words its bytes.
-use Rattle.std.specs.Prelude.{ℕ, zero, suc, ◌+◌, ◌*◌, ◌/◌, ◌%◌, ◌<◌, ◌≤◌, ◌≡◌, not, List, [], ◌∷◌, ◌++◌, length, get_or, take, drop, eqb}
+use Rattle.std.specs.Prelude.{ℕ, zero, suc, ◌+◌, ◌*◌, ◌/◌, ◌%◌, ◌<◌, ◌≤◌, ◌≡◌, not, List, [], ◌∷◌, ◌++◌, length, get_or, take, drop, eqb, Option, Some, None}
 use Rattle.std.proofs.Math.Path.{refl}
 use Rattle.std.proofs.Common.{sym, ap, ◌∙◌, eqb-true}
 use Rattle.std.proofs.Math.Bool.{true}
 use native.Mathlib.Omega.{arith}
 use Rattle.std.proofs.Math.ListN.{get_or-append}
 use Rattle.std.proofs.lemmas.Bool.{not-false}
-use Rattle.rules.specs.declared.Found.{Found}
-use Rattle.rules.specs.declared.Found.TheVariants.{At, Nowhere}
 use Rattle.rules.specs.Lists.{both, first, lowest}
 use Rattle.rules.specs.Words.{BT, EQ, tag, field_a, field_b, field_c}
 use Rattle.rules.specs.File.{marks, tag_of, byte, marked, word, is_known, tag_word, file_words}
@@ -21,21 +19,21 @@ use Rattle.laws.specs.FileRows.{Words, Bytes, record_words, file_words-rows, fil
 -- Marks and tags
 
 -- the mark of each of the ten tags names that tag, as computed for each
-all_tags : lowest 10 (λ j. not (eqb (tag_word (tag_of (get_or marks (suc j) (0, 0)).0 (get_or marks (suc j) (0, 0)).1)) (suc j))) ≡ Nowhere
+all_tags : lowest 10 (λ j. not (eqb (tag_word (tag_of (get_or marks (suc j) (0, 0)).0 (get_or marks (suc j) (0, 0)).1)) (suc j))) ≡ None
 unfolding lowest first tag_of marks both tag_word
 all_tags = refl
 
-pub tag_again : (t : ℕ) → BT ≤ t → t ≤ EQ → tag_of (get_or marks t (0, 0)).0 (get_or marks t (0, 0)).1 ≡ At t
+pub tag_again : (t : ℕ) → BT ≤ t → t ≤ EQ → tag_of (get_or marks t (0, 0)).0 (get_or marks t (0, 0)).1 ≡ Some t
 unfolding tag_word
 tag_again zero low high = absurd (omega arith)
 tag_again (suc j) low high = go _ refl (eqb-true _ _ (not-false _ (lowest_none 10 _ all_tags j (omega arith))))
   where
-    go : (f : Found) → tag_of (get_or marks (suc j) (0, 0)).0 (get_or marks (suc j) (0, 0)).1 ≡ f → tag_word (tag_of (get_or marks (suc j) (0, 0)).0 (get_or marks (suc j) (0, 0)).1) ≡ suc j
-        → tag_of (get_or marks (suc j) (0, 0)).0 (get_or marks (suc j) (0, 0)).1 ≡ At (suc j)
-    go (At k) e q = e ∙ ap At (rw e at q)
-    go Nowhere e q = absurd (let z : 0 ≡ suc j = (rw e at q) in omega arith)
+    go : (f : Option ℕ) → tag_of (get_or marks (suc j) (0, 0)).0 (get_or marks (suc j) (0, 0)).1 ≡ f → tag_word (tag_of (get_or marks (suc j) (0, 0)).0 (get_or marks (suc j) (0, 0)).1) ≡ suc j
+        → tag_of (get_or marks (suc j) (0, 0)).0 (get_or marks (suc j) (0, 0)).1 ≡ Some (suc j)
+    go (Some k) e q = e ∙ ap Some (rw e at q)
+    go None e q = absurd (let z : 0 ≡ suc j = (rw e at q) in omega arith)
 
-pub mark_again : (x y t : ℕ) → tag_of x y ≡ At t → mark_bytes t ≡ x ∷ y ∷ []
+pub mark_again : (x y t : ℕ) → tag_of x y ≡ Some t → mark_bytes t ≡ x ∷ y ∷ []
 unfolding tag_of mark_bytes
 mark_again x y t e =
     let p = both_true _ _ (first_passes 10 _ 1 t e) in
@@ -108,7 +106,7 @@ module _ (ws : List ℕ) (n : ℕ) where
       rw (one, two, three, a, b, c, d)
 
   module _ (g : Sound ws n) (fits : Words ws) where
-    pub marked_again : (r : ℕ) → r < n → marked (file_bytes ws 0 n) r ≡ At (tag ws r)
+    pub marked_again : (r : ℕ) → r < n → marked (file_bytes ws 0 n) r ≡ Some (tag ws r)
     unfolding marked record_bytes mark_bytes
     marked_again r h =
         let z : 14 * r + 0 ≡ 14 * r = omega arith in
@@ -150,9 +148,9 @@ module _ (bs ws : List ℕ) (n : ℕ) where
     unfolding marked tag_word is_known stretch
     mark-left r h = go (marked bs r) refl (known r h)
       where
-        go : (f : Found) → marked bs r ≡ f → is_known f ≡ true → mark_bytes (tag_word f) ≡ stretch bs (14 * r) 0 2
-        go (At t) e k = let z : 14 * r + 0 ≡ 14 * r = omega arith in rw z (mark_again _ _ t e)
-        go Nowhere e k = absurd (false_true k)
+        go : (f : Option ℕ) → marked bs r ≡ f → is_known f ≡ true → mark_bytes (tag_word f) ≡ stretch bs (14 * r) 0 2
+        go (Some t) e k = let z : 14 * r + 0 ≡ 14 * r = omega arith in rw z (mark_again _ _ t e)
+        go None e k = absurd (false_true k)
 
     record_left : (r : ℕ) → r < n → record_bytes left r ≡ stretch bs (14 * r) 0 14
     unfolding record_bytes stretch

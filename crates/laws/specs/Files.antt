@@ -1,9 +1,7 @@
 -- Reading what was written gives the same records, and writing what was read gives the same bytes.
-use Rattle.std.specs.Prelude.{ℕ, ◌*◌, ◌/◌, ◌%◌, ◌<◌, ◌≤◌, min, ◌≡◌, refl, Bool, true, false, not, List, ◌++◌, length, take, drop, eqb, ltb}
+use Rattle.std.specs.Prelude.{ℕ, ◌*◌, ◌/◌, ◌%◌, ◌<◌, ◌≤◌, min, ◌≡◌, refl, Bool, true, false, not, List, ◌++◌, length, take, drop, eqb, ltb, Option, Some, None}
 use Rattle.std.proofs.Common.{ap, ◌∙◌, arith, take_at, take_all, ltb-false, le-ltb, eqb-true, eq-eqb}
 use Rattle.std.proofs.lemmas.Bool.{not-false}
-use Rattle.rules.specs.declared.Found.{Found}
-use Rattle.rules.specs.declared.Found.TheVariants.{At, Nowhere}
 use Rattle.rules.specs.declared.Reply.{Reply}
 use Rattle.rules.specs.Lists.{either, lowest}
 use Rattle.rules.specs.Answers.{reply, records}
@@ -23,19 +21,19 @@ use Rattle.laws.specs.FileRecords.{marked_again, words_again, file_again}
 record Written (ws : List ℕ) (n : ℕ) (bs : List ℕ) : Type 0 where
   few : n ≤ 2048
   held : n ≤ records ws
-  none : broken ws n ≡ Nowhere
+  none : broken ws n ≡ None
   is : write ws n bs ≡ record { file = file_bytes ws 0 n ++ drop (14 * n) bs; said = reply 0 0 n }
 
 written : (ws : List ℕ) (n : ℕ) (bs : List ℕ) → (write ws n bs).said.answer ≡ 0 → Written ws n bs
 unfolding write either
 written ws n bs z = go (ltb (records ws) n) refl (ltb 2048 n) refl (broken ws n) refl (ltb (length bs) (14 * n)) refl
   where
-    go : (a : Bool) → ltb (records ws) n ≡ a → (b : Bool) → ltb 2048 n ≡ b → (f : Found) → broken ws n ≡ f → (c : Bool) → ltb (length bs) (14 * n) ≡ c → Written ws n bs
+    go : (a : Bool) → ltb (records ws) n ≡ a → (b : Bool) → ltb 2048 n ≡ b → (f : Option ℕ) → broken ws n ≡ f → (c : Bool) → ltb (length bs) (14 * n) ≡ c → Written ws n bs
     go true p b q f r c s = absurd (let e : ◌≡◌ {A = ℕ} 4 0 = (rw (p, write) at z) in omega arith)
     go false p true q f r c s = absurd (let e : ◌≡◌ {A = ℕ} 4 0 = (rw (p, q, write) at z) in omega arith)
-    go false p false q (At k) r c s = absurd (let e : ◌≡◌ {A = ℕ} 5 0 = (rw (p, q, r, write) at z) in omega arith)
-    go false p false q Nowhere r true s = absurd (let e : ◌≡◌ {A = ℕ} 14 0 = (rw (p, q, r, s, write) at z) in omega arith)
-    go false p false q Nowhere r false s = record { few = ltb-false _ _ q; held = ltb-false _ _ p; none = r; is = rw (p, q, r, s, write) }
+    go false p false q (Some k) r c s = absurd (let e : ◌≡◌ {A = ℕ} 5 0 = (rw (p, q, r, write) at z) in omega arith)
+    go false p false q None r true s = absurd (let e : ◌≡◌ {A = ℕ} 14 0 = (rw (p, q, r, s, write) at z) in omega arith)
+    go false p false q None r false s = record { few = ltb-false _ _ q; held = ltb-false _ _ p; none = r; is = rw (p, q, r, s, write) }
 
 -- a whole file with known marks, for which the table has room, is read
 read_known : (bs ws : List ℕ) (n : ℕ) → length bs ≡ 14 * n → n ≤ 2048 → n ≤ records ws → ((r : ℕ) → r < n → is_known (marked bs r) ≡ true)
@@ -60,12 +58,12 @@ unfolding read either
 taken bs ws n z = go (ltb 28672 (length bs)) refl (eqb (length bs % 14) 0) refl (ltb (records ws) (length bs / 14)) refl (lowest (length bs / 14) (λ r. not (is_known (marked bs r)))) refl
   where
     go : (a : Bool) → ltb 28672 (length bs) ≡ a → (b : Bool) → eqb (length bs % 14) 0 ≡ b → (c : Bool) → ltb (records ws) (length bs / 14) ≡ c
-        → (f : Found) → lowest (length bs / 14) (λ r. not (is_known (marked bs r))) ≡ f → Taken bs ws n
+        → (f : Option ℕ) → lowest (length bs / 14) (λ r. not (is_known (marked bs r))) ≡ f → Taken bs ws n
     go true p b q c r f s = absurd (let e : ◌≡◌ {A = ℕ} 12 0 = ap (λ (x : Reply). x.answer) (rw (p, read) at z) in omega arith)
     go false p false q c r f s = absurd (let e : ◌≡◌ {A = ℕ} 12 0 = ap (λ (x : Reply). x.answer) (rw (p, q, read) at z) in omega arith)
     go false p true q true r f s = absurd (let e : ◌≡◌ {A = ℕ} 4 0 = ap (λ (x : Reply). x.answer) (rw (p, q, r, read) at z) in omega arith)
-    go false p true q false r (At k) s = absurd (let e : ◌≡◌ {A = ℕ} 13 0 = ap (λ (x : Reply). x.answer) (rw (p, q, r, s, read) at z) in omega arith)
-    go false p true q false r Nowhere s =
+    go false p true q false r (Some k) s = absurd (let e : ◌≡◌ {A = ℕ} 13 0 = ap (λ (x : Reply). x.answer) (rw (p, q, r, s, read) at z) in omega arith)
+    go false p true q false r None s =
         let m : length bs / 14 ≡ n = ap (λ (x : Reply). x.used) (rw (p, q, r, s, read) at z) in
         let even : length bs % 14 ≡ 0 = eqb-true _ _ q in
         record {

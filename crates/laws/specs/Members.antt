@@ -1,10 +1,9 @@
 -- What every element of a list of a sound table is: a lower record of the list's kind.
 use Prim.Native.Nat.{ℕ, zero, suc, ◌*◌, ◌<◌, ◌≤◌}
-use Rattle.std.specs.Prelude.{◌≡◌, refl, List, [], ◌∷◌, map, Bool, true, ◌⊎◌, length, get_or}
+use Rattle.std.specs.Prelude.{◌≡◌, refl, List, [], ◌∷◌, map, Bool, true, ◌⊎◌, length, get_or, None}
 use Rattle.std.proofs.Common.{inl, inr}
 use native.Mathlib.Omega.{arith}
 use Rattle.std.proofs.Math.Decide.{ℕ_discrete}
-use Rattle.rules.specs.declared.Found.TheVariants.{Nowhere}
 use Rattle.rules.specs.Lists.{each}
 use Rattle.rules.specs.Words.{NONE, CE, tag, field_a, field_b, cells, elements}
 use Rattle.rules.specs.Records.{broken}
@@ -18,7 +17,7 @@ pub record Legal (ws : List ℕ) (n : ℕ) : Type 0 where
   pub sound : Sound ws n
 
 -- from success of the records check follows what all later reading relies on
-pub broken_legal : (ws : List ℕ) (n : ℕ) → (n ≤ 4096) × (4 * n ≤ length ws) → broken ws n ≡ Nowhere → Legal ws n
+pub broken_legal : (ws : List ℕ) (n : ℕ) → (n ≤ 4096) × (4 * n ≤ length ws) → broken ws n ≡ None → Legal ws n
 broken_legal ws n h e = record { inside = h.1; few = h.0; sound = broken_none ws n e }
 
 -- every element has P

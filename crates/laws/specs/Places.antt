@@ -4,8 +4,8 @@ use Rattle.std.proofs.Common.{arith, eqb-true}
 use Rattle.std.proofs.Math.Decide.{ℕ_discrete}
 use Rattle.rules.specs.Words.{NONE, AR, HO, CE, LA, CA, HA, EQ, tag, field_a, field_b, field_c, has, is_type, is_term, elements}
 use Rattle.laws.specs.Sound.{arrow_fields, constant_field, lambda_field, constant_head, hole_head, hole_context, equation_fields, follows_type, follows_term, constant_list, variable_list, hole_list, cell_element}
-use Rattle.laws.specs.Lists.{size, size_none, size_real}
-use Rattle.laws.specs.Members.{Legal, Begins, begins, rest_begins}
+use Rattle.laws.specs.Lists.{size, size_none, size_real, Listed}
+use Rattle.laws.specs.Members.{Legal, Begins, begins, rest_begins, listed_in}
 use Rattle.laws.specs.Forms.{Term, is_lambda, is_constant, is_variable, is_hole_lem, term_of}
 use Rattle.laws.specs.Unrolled.{elements_unrolled}
 
@@ -29,6 +29,10 @@ pub record ListAt (ok : ℕ → Bool) (ws : List ℕ) (l : ℕ) : Type 0 where
   pub top : ℕ
   pub legal : Legal ws top
   pub first : Begins ok ws top l
+
+-- a list can be read
+pub list_read : (ok : ℕ → Bool) (ws : List ℕ) (l : ℕ) → ListAt ok ws l → Listed ws l
+list_read ok ws l p = listed_in ws p.top ok p.top l p.legal (omega arith) p.first
 
 pub placed_inside : (ok : ℕ → Bool) (ws : List ℕ) (r : ℕ) → Placed ok ws r → 4 * r + 3 < length ws
 placed_inside ok ws r p = let i = p.legal.inside in let l = p.low in omega arith

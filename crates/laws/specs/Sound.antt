@@ -1,12 +1,11 @@
 -- A table of which no record is broken, read field by field: every reference goes to a lower record of the right kind, every rest is like its cell.
-use Rattle.std.specs.Prelude.{ℕ, ◌<◌, ◌≤◌, ◌≡◌, refl, List, Bool, false, not, ◌⊎◌, length, get_or, eqb, ltb, leb}
+use Rattle.std.specs.Prelude.{ℕ, ◌<◌, ◌≤◌, ◌≡◌, refl, List, Bool, false, not, ◌⊎◌, length, get_or, eqb, ltb, leb, None}
 use Rattle.std.proofs.Common.{ap, arith}
 use Rattle.std.proofs.Math.Bool.{true}
 use Rattle.std.proofs.Math.Logic.{inl, inr}
 use Rattle.std.proofs.Math.Decide.{ℕ_discrete}
 use Rattle.std.proofs.Math.ListN.{get_or-eq_default}
 use borrow.Author.Tests.{ltb-true, ltb-false, leb-true, eqb-true, not-false}
-use Rattle.rules.specs.declared.Found.TheVariants.{Nowhere}
 use Rattle.rules.specs.Lists.{both, either}
 use Rattle.rules.specs.Words.{tag, field_a, field_b, field_c, NONE, BT, AR, KO, HO, CE, LA, CA, VA, HA, EQ, has, is_type, is_term, cells}
 use Rattle.rules.specs.Records.{Field, type as a_type, base as a_base, constant as a_constant, hole as a_hole, term as a_term, types as some_types, terms as some_terms, element as an_element, rest as a_rest, never, shapes, shape, list_of, fits, shaped, alike, listed, keeps, broken}
@@ -16,7 +15,7 @@ use Rattle.laws.specs.Tests.{false_true, both_true, either_true, lowest_none}
 abbrev pub Sound : List ℕ → ℕ → Type 0
 Sound ws n = (r : ℕ) → r < n → keeps ws r ≡ true
 
-pub broken_none : (ws : List ℕ) (n : ℕ) → broken ws n ≡ Nowhere → Sound ws n
+pub broken_none : (ws : List ℕ) (n : ℕ) → broken ws n ≡ None → Sound ws n
 unfolding broken
 broken_none ws n e r h = not-false (keeps ws r) (lowest_none n (λ j. not (keeps ws j)) e r h)
 

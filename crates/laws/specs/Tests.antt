@@ -1,8 +1,7 @@
 -- What a passed or failed test of the rules says.
-use Rattle.std.specs.Prelude.{ℕ, zero, suc, ◌+◌, ◌<◌, ◌≤◌, ◌≡◌, refl, Bool, true, false, List, ◌⊎◌}
+use Rattle.std.specs.Prelude.{ℕ, zero, suc, ◌+◌, ◌<◌, ◌≤◌, ◌≡◌, refl, Bool, true, false, List, ◌⊎◌, Some, None}
 use Rattle.std.proofs.Common.{inl, inr, arith, eq-eqb, ne_eqb, eqb-true}
 use Rattle.std.proofs.Math.Decide.{ℕ_discrete}
-use Rattle.rules.specs.declared.Found.TheVariants.{At, Nowhere}
 use Rattle.rules.specs.Lists.{both, either, first, lowest}
 use Rattle.rules.specs.Words.{tag, has}
 
@@ -46,13 +45,13 @@ either_true true b e = inl refl
 either_true false true e = inr refl
 either_true false false e = absurd (false_true e)
 
-first_none : (k : ℕ) (ok : ℕ → Bool) (i : ℕ) → first k ok i ≡ Nowhere → (j : ℕ) → i ≤ j → j < i + k → ok j ≡ false
+first_none : (k : ℕ) (ok : ℕ → Bool) (i : ℕ) → first k ok i ≡ None → (j : ℕ) → i ≤ j → j < i + k → ok j ≡ false
 unfolding first
 first_none zero ok i e j a b = absurd (omega arith)
 first_none (suc k) ok i e j a b = go (ok i) refl (first_none k ok (i + 1))
   where
-    go : (x : Bool) → ok i ≡ x → (first k ok (i + 1) ≡ Nowhere → (j : ℕ) → i + 1 ≤ j → j < i + 1 + k → ok j ≡ false) → ok j ≡ false
-    go true q ih = absurd (let z : At i ≡ Nowhere = (rw (q, first) at e) in let y : ◌≡◌ {A = ℕ} 0 1 = cc in omega arith)
+    go : (x : Bool) → ok i ≡ x → (first k ok (i + 1) ≡ None → (j : ℕ) → i + 1 ≤ j → j < i + 1 + k → ok j ≡ false) → ok j ≡ false
+    go true q ih = absurd (let z : Some i ≡ None = (rw (q, first) at e) in let y : ◌≡◌ {A = ℕ} 0 1 = cc in omega arith)
     go false q ih = same (ℕ_discrete i j)
       where
         same : Dec (i ≡ j) → ok j ≡ false
@@ -60,7 +59,7 @@ first_none (suc k) ok i e j a b = go (ok i) refl (first_none k ok (i + 1))
         same (no z) = ih (rw (q, first) at e) j (omega arith) (omega arith)
 
 -- a search that finds nothing: none passes
-pub lowest_none : (n : ℕ) (ok : ℕ → Bool) → lowest n ok ≡ Nowhere → (j : ℕ) → j < n → ok j ≡ false
+pub lowest_none : (n : ℕ) (ok : ℕ → Bool) → lowest n ok ≡ None → (j : ℕ) → j < n → ok j ≡ false
 unfolding lowest
 lowest_none n ok e j h = first_none n ok 0 e j (omega arith) (omega arith)
 

@@ -1,10 +1,8 @@
 -- A term written anew keeps the store sane and is in scope, whatever happens at a hole, as long as that is so there.
-use Rattle.std.specs.Prelude.{ℕ, ◌+◌, ◌-◌, ◌<◌, ◌≤◌, ◌≡◌, List, true, length}
+use Rattle.std.specs.Prelude.{ℕ, ◌+◌, ◌-◌, ◌<◌, ◌≤◌, ◌≡◌, List, true, length, Option, Some, None}
 use Rattle.std.proofs.Math.Path.{refl}
 use Rattle.std.proofs.Common.{sym, ◌∙◌, arith, ne_eqb}
 use Rattle.std.proofs.Math.Decide.{ℕ_discrete}
-use Rattle.rules.specs.declared.Found.{Found}
-use Rattle.rules.specs.declared.Found.TheVariants.{At, Nowhere}
 use Rattle.rules.specs.Words.{KO, LA, CA, VA, tag, field_a, has, is_term, form, hole, arguments}
 use Rattle.rules.specs.Store.{Store}
 use Rattle.rules.specs.Map.{Map, place_of}
@@ -96,7 +94,7 @@ module _ (R : ℕ) (Fits : Map → ℕ → Type 0) (on_hole w : Writer) (at : Wr
       (tag_same s.words s₁.words s.used (legal i.sane) v.kept.same (field_a s.words r) (omega arith) ∙ tag_of s.words (field_a s.words r) KO a.1) v.chain in
       record { kept = k.0; root = k.1; part = head-part CA (field_a s.words r) l v lt (omega arith) (omega arith) (λ z. absurd (omega arith)) k.1 }
 
-  variable_wrote : (s₁ : Store) (x l : ℕ) → s₁.used < R → s.used ≤ s₁.used → tag s.words r ≡ VA → place_of m d (field_a s.words r) ≡ At x
+  variable_wrote : (s₁ : Store) (x l : ℕ) → s₁.used < R → s.used ≤ s₁.used → tag s.words r ≡ VA → place_of m d (field_a s.words r) ≡ Some x
       → ((T b : ℕ) → Sources R Fits m T b d (arguments s.words r) s → Small (T + d) s s₁ → WroteList R (T + d) (length (arguments s.words r)) s s₁ l)
       → Says (added s₁ VA x l) s₁.used
   variable_wrote s₁ x l lt g e at p T b i c =
@@ -113,7 +111,7 @@ module _ (R : ℕ) (Fits : Map → ℕ → Type 0) (on_hole w : Writer) (at : Wr
       at_hole : (tag s.words r ≡ LA → ⊥) → (tag s.words r ≡ CA → ⊥) → (tag s.words r ≡ VA → ⊥) → Ran R s Says (on_hole m d r s)
       at_hole e f g = ran_map R (at m d r s) (λ s₁ x b₁ p T b i c. let z = term_tag s.words r i.part.term in let z₀ = z.0 in let z₁ = z.1 in p T b i (omega arith) c)
 
-      go : Dec (tag s.words r ≡ LA) → Dec (tag s.words r ≡ CA) → Dec (tag s.words r ≡ VA) → (p : Found) → place_of m d (field_a s.words r) ≡ p
+      go : Dec (tag s.words r ≡ LA) → Dec (tag s.words r ≡ CA) → Dec (tag s.words r ≡ VA) → (p : Option ℕ) → place_of m d (field_a s.words r) ≡ p
           → Ran R s Says (write_term on_hole w R s.words m d r s)
       go (yes e) f g p q =
           rw (form_6 _ _ e, write_term)
@@ -121,8 +119,8 @@ module _ (R : ℕ) (Fits : Map → ℕ → Type 0) (on_hole w : Writer) (at : Wr
       go (no e) (yes f) g p q =
           rw (form_7 _ _ f, write_term)
           (ran_bind R _ (all_ran R Fits w writes m d (arguments s.words r) s) λ s₁ l b₁ o. ran_push R CA (field_a s.words r) l s₁ λ lt. constant_wrote s₁ l lt b₁.grown f o)
-      go (no e) (no f) (yes g) Nowhere q = rw (form_8 _ _ g, write_term, q) (ran_fail R _)
-      go (no e) (no f) (yes g) (At x) q =
+      go (no e) (no f) (yes g) None q = rw (form_8 _ _ g, write_term, q) (ran_fail R _)
+      go (no e) (no f) (yes g) (Some x) q =
           rw (form_8 _ _ g, write_term, q)
           (ran_bind R _ (all_ran R Fits w writes m d (arguments s.words r) s) λ s₁ l b₁ o. ran_push R VA x l s₁ λ lt. variable_wrote s₁ x l lt b₁.grown g q o)
       go (no e) (no f) (no g) p q = rw (form_other _ _ e f g, write_term) (at_hole e f g)

@@ -1,9 +1,8 @@
 -- After solving with answer 0 the records in use form a legal table again, within the room.
-use Rattle.std.specs.Prelude.{ℕ, ◌*◌, ◌-◌, ◌≤◌, ◌≡◌, refl, List, true, not, length}
+use Rattle.std.specs.Prelude.{ℕ, ◌*◌, ◌-◌, ◌≤◌, ◌≡◌, refl, List, true, not, length, None}
 use Rattle.std.proofs.Common.{◌∙◌, arith}
 use Rattle.rules.specs.declared.Failure.{Failure}
 use Rattle.rules.specs.declared.Failure.TheVariants.{Clash, Escape, Occurs, QueueFull, TableFull}
-use Rattle.rules.specs.declared.Found.TheVariants.{Nowhere}
 use Rattle.rules.specs.Words.{NONE}
 use Rattle.rules.specs.Answers.{number, records, pairs}
 use Rattle.rules.specs.Records.{keeps, broken}
@@ -22,7 +21,7 @@ use Rattle.legal.specs.Sane.{Sane}
 use Rattle.legal.specs.Ran.{Ran}
 use Rattle.legal.proofs.Start.{machine_ran}
 
-sound-broken : (ws : List ℕ) (n : ℕ) → Sound ws n → broken ws n ≡ Nowhere
+sound-broken : (ws : List ℕ) (n : ℕ) → Sound ws n → broken ws n ≡ None
 unfolding broken
 sound-broken ws n g = lowest_nowhere n (λ r. not (keeps ws r)) (λ j l. rw (g j l))
 
@@ -54,7 +53,7 @@ solved_sane ws ss qs n = said (refusal true ws ss n) refl (refusal_says true ws 
     said admitted e i z = ran e (machine (records ws) (pairs qs) n (start ws ss n)) refl z
 
 -- the first `used` records are legal
-pub solved_legal : (ws ss qs : List ℕ) (n : ℕ) → (solve ws ss qs n).said.answer ≡ 0 → broken (solve ws ss qs n).table (solve ws ss qs n).said.used ≡ Nowhere
+pub solved_legal : (ws ss qs : List ℕ) (n : ℕ) → (solve ws ss qs n).said.answer ≡ 0 → broken (solve ws ss qs n).table (solve ws ss qs n).said.used ≡ None
 solved_legal ws ss qs n e = let h = solved_sane ws ss qs n e in rw (h.2, h.3) (sound-broken h.0.words h.0.used h.1.sound)
 
 -- and there is room for them

@@ -1,4 +1,5 @@
 -- What reading and solving leave gives the program's lines.
+use Rattle.std.specs.Prelude.{Some}
 use Prim.Native.Nat.{ℕ, zero, suc, ◌*◌, ◌<◌, ◌≤◌}
 use mathlib.Core.Path.{◌≡◌, refl, sym, ap, ◌∙◌}
 use mathlib.Core.Bool.{true}
@@ -18,7 +19,6 @@ use Rattle.rules.specs.Show.{answer, shows, show}
 use Rattle.rules.specs.File.{Read, read}
 use Rattle.rules.specs.Text.{Bytes, reply_line, shown_text, hole_line, solved_lines, lines, program_lines}
 use Rattle.laws.specs.Noted.{noted_member}
-use Rattle.checks.specs.declared.Asked.TheVariants.{Record as Asking}
 use Rattle.checks.specs.Refusing.{asks, is_hole}
 use Rattle.solver.specs.Answering.{Answerable}
 use Rattle.solver.specs.AnsweringLaws.{answerable}
@@ -92,10 +92,10 @@ module _ (ws ss qs os : List ℕ) (n : ℕ) (ws₁ ss₁ qs₁ : List ℕ) (r : 
       shown_line = rw (asked, e) (line_same (record { table = ws₁; solutions = ss₁; queue = qs₁; said = r }) (solved ws₁ ss₁) os h refl refl z refl)
 
       hole_answerable : Answerable ws₁ ss₁ h
-      hole_answerable = answerable (Asking h) ws ss qs n h ws₁ ss₁ qs₁ r left refl z
+      hole_answerable = answerable (Some h) ws ss qs n h ws₁ ss₁ qs₁ r left refl z
         where
-          left : leaves (refusal (asks (Asking h) ws n) ws ss n) ws ss qs n ≡ record { table = ws₁; solutions = ss₁; queue = qs₁; said = r }
-          left = let a : asks (Asking h) ws n ≡ true = unfold asks in unfold is_hole in asked in rw a (unfold solve in e)
+          left : leaves (refusal (asks (Some h) ws n) ws ss n) ws ss qs n ≡ record { table = ws₁; solutions = ss₁; queue = qs₁; said = r }
+          left = let a : asks (Some h) ws n ≡ true = unfold asks in unfold is_hole in asked in rw a (unfold solve in e)
 
 module _ (bs ws ss qs hs : List ℕ) (b : Blank ws ss qs hs) (ws₁ : List ℕ) (given : Reply) (got : read bs ws ≡ record { table = ws₁; said = given }) where
   pub begins_refused : (given.answer ≡ 0 → ⊥) → Lines bs ws₁ ss hs (record { reply = given; holes = 0 })

@@ -4,8 +4,6 @@ use mathlib.Core.Path.{◌≡◌, ◌∙◌}
 use mathlib.Core.List.{List}
 use native.Mathlib.Omega.{arith}
 use lib.ListN.{length}
-use mir.Syntax.{w32}
-use mir.Val.{Fits}
 use Rattle.rules.specs.Words.{HO, has}
 use Rattle.laws.specs.Noted.{noted_start}
 use Rattle.records.specs.Noting.{NoteAsks}
@@ -36,9 +34,6 @@ module _ (ws hs₀ : List ℕ) (n : ℕ) where
 
     pub passed_more : (hs₁ : List ℕ) (j : ℕ) → r < n → length hs₁ ≡ length hs → Holes ws hs₁ j (r + 1) → Passed ws hs₀ hs₁ n j (r + 1)
     passed_more hs₁ j lt l h = record { all = p.all; same = l ∙ p.same; low = omega arith; holes = h }
-
-    pub passed_fits : Fits w32 k
-    passed_fits = let f = p.holes.few in let l = p.low in let m = p.all.few in record { fits = omega arith }
 
     pub passed_all : n ≤ r → Holes ws hs k n
     passed_all le = let l = p.low in let e : r ≡ n = omega arith in rw e at p.holes

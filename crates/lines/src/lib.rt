@@ -28,10 +28,8 @@ fn note_holes(table: &[u32], holes: &mut [u16], n: u32) -> u32
     ensures { Holes table.now holes.new result n }
 {
     let mut count = 0;
-    let mut r = 0;
-    while r < n {
+    for r in 0..n {
         count = note(table, holes, count, r, HO);
-        r += 1;
     }
     count as u32
 }
@@ -65,7 +63,8 @@ pub fn begin(
     }
 }
 
-// The line of a reply's three numbers, each of which has at most ten digits.
+// The line of a reply's three numbers, each of which has at most ten digits: so the proof knows of a number that is passed, and not of the fields of
+// a reply that is.
 fn first_line(text: &mut [u8], answer: u32, place: u32, used: u32) -> usize
     requires { longest ≤ length text.old }
     ensures { Stands (reply_line (reply answer place used)) text.new result }
@@ -98,7 +97,7 @@ pub fn line(
         let reply = begun.reply;
         return first_line(text, reply.answer, reply.place, reply.used);
     }
-    let hole = holes[(i - 1) as usize] as u32;
-    let said = write_answer(table, solutions, output, Hole(hole));
-    hole_line(text, 0, Hole(hole), said, output)
+    let hole = Hole(holes[(i - 1) as usize] as u32);
+    let said = write_answer(table, solutions, output, hole);
+    hole_line(text, 0, hole, said, output)
 }

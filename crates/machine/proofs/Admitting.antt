@@ -1,11 +1,10 @@
 -- An admitted input where the machine starts, cleared, with the first C pairs of the queue.
-use Prim.Native.Nat.{ℕ, zero, suc, ◌+◌, ◌-◌, ◌*◌, ◌<◌, ◌≤◌}
+use Prim.Native.Nat.{ℕ, zero, suc, ◌+◌, ◌-◌, ◌*◌, ◌<◌}
 use mathlib.Core.Path.{◌≡◌, refl, ap, ◌∙◌}
 use mathlib.Core.List.{List, ◌∷◌}
 use mathlib.Core.Bool.{Bool, true, false}
 use native.Mathlib.Omega.{arith}
-use lib.ListN.{length}
-use borrow.Rule.Slice.PartMut.{mid_of, mid_len}
+use lib.ListN.{length, take}
 use Rattle.rules.specs.Words.{EQ, has}
 use Rattle.rules.specs.Lists.{those, from, below}
 use Rattle.rules.specs.Answers.{pairs}
@@ -17,11 +16,7 @@ use Rattle.store.specs.Clearing.{Clearing, Cleared}
 use Rattle.store.specs.ClearingLaws.{clearing_on}
 use Rattle.machine.specs.Start.{Noted, Started}
 use Rattle.machine.specs.Leaving.{Admits}
-use Rattle.machine.proofs.Pairs.{pairs_held}
-
--- the part of the queue that is lent on
-pub part_length : (C : ℕ) (qs : List ℕ) → 2 * C ≤ length qs → length (mid_of 0 (2 * C - 0) qs) ≡ 2 * C
-part_length C qs h = let k : 2 * C - 0 ≡ 2 * C = omega arith in mid_len 0 (2 * C) qs h ∙ k
+use Rattle.machine.proofs.Pairs.{lent_length}
 
 -- as many records are given as before, with the same tags: the same equations
 those_same : (ok ok₁ : ℕ → Bool) (i k : ℕ) → ((e : ℕ) → e < i + k → ok e ≡ ok₁ e) → those ok (from i k) ≡ those ok₁ (from i k)
@@ -33,15 +28,15 @@ those_same ok ok₁ i (suc k) h = go (ok₁ i) refl (h i (omega arith)) (those_s
     go true e q ih = rw (q, e, those) (ap (i ∷◌) ih)
     go false e q ih = rw (q, e, those) ih
 
-noted_cleared : (n R : ℕ) (ws ss ws₀ ss₀ es : List ℕ) (k : ℕ) → Clearing n R ws ss → Cleared n R ws ss ws₀ ss₀ → Noted ws n es k → Noted ws₀ n es k
+noted_cleared : (n R : ℕ) (ws ss ws₀ ss₀ es : List ℕ) → Clearing n R ws ss → Cleared n R ws ss ws₀ ss₀ → Noted ws n es → Noted ws₀ n es
 unfolding has below
-noted_cleared n R ws ss ws₀ ss₀ es k h c d =
+noted_cleared n R ws ss ws₀ ss₀ es h c d =
     let t = h.in_table in
     let r = h.room in
     let same : (e : ℕ) → e < 0 + n → has ws e EQ ≡ has ws₀ e EQ = λ e l. rw (← c.table, filled-below (4 * n) (4 * (R - n)) 0 (4 * e) ws (omega arith) (omega arith)) in
-    record { long = d.long; same = d.same ∙ those_same (λ e. has ws e EQ) (λ e. has ws₀ e EQ) 0 n same }
+    d ∙ those_same (λ e. has ws e EQ) (λ e. has ws₀ e EQ) 0 n same
 
-module _ (R n : ℕ) (ws ss es : List ℕ) (k : ℕ) (a : Admits R n ws ss es k) where
+module _ (R n : ℕ) (ws ss es : List ℕ) (a : Admits R n ws ss es) where
   pub admits_clearing : Clearing n R ws ss
   admits_clearing =
       let z = a.room in
@@ -55,7 +50,7 @@ module _ (R n : ℕ) (ws ss es : List ℕ) (k : ℕ) (a : Admits R n ws ss es k)
   unfolding start
   start_is ws₀ ss₀ c = rw (a.room, c.table, c.solutions)
 
-  pub admits_started : (C : ℕ) (qs ws₀ ss₀ : List ℕ) → Cleared n R ws ss ws₀ ss₀ → length ws₀ ≡ length ws → pairs qs ≡ C → Started R n ws₀ ss₀ (mid_of 0 (2 * C - 0) qs) C es k
+  pub admits_started : (C : ℕ) (qs ws₀ ss₀ : List ℕ) → Cleared n R ws ss ws₀ ss₀ → length ws₀ ≡ length ws → pairs qs ≡ C → Started R n ws₀ ss₀ (take (2 * C) qs) C es
   unfolding pairs
   admits_started C qs ws₀ ss₀ c l p =
       let h = admits_clearing in
@@ -65,12 +60,12 @@ module _ (R n : ℕ) (ws ss es : List ℕ) (k : ℕ) (a : Admits R n ws ss es k)
       let i = a.input in
       record {
         inside = omega arith;
-        room = let l = part_length C qs (pairs_held qs C p) in omega arith;
+        room = let l = lent_length qs C p in omega arith;
         few = omega arith;
         home = λ i. 0;
         running = rw (a.room, start_is ws₀ ss₀ c) at (start_running ws ss n i.sound i.in_table i.held C);
         known = rw (a.room, start_is ws₀ ss₀ c) at (known_start ws ss n a.typed);
-        noted = noted_cleared n R ws ss ws₀ ss₀ es k admits_clearing c a.noted;
+        noted = noted_cleared n R ws ss ws₀ ss₀ es admits_clearing c a.noted;
       }
 
   pub admits_clearing_on : (ws₀ ss₀ ws₁ ss₁ : List ℕ) → length ws₀ ≡ length ws → length ss₀ ≡ length ss → length ws₁ ≡ length ws₀ → length ss₁ ≡ length ss₀ → Clearing n R ws₁ ss₁

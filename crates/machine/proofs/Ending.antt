@@ -1,11 +1,11 @@
 -- What the machine comes to, and what is left behind.
-use Prim.Native.Nat.{ℕ, zero, suc, ◌-◌, ◌*◌}
+use Prim.Native.Nat.{ℕ, zero, suc, ◌+◌, ◌-◌, ◌*◌}
 use mathlib.Core.Path.{◌≡◌, refl, sym, ◌∙◌}
-use mathlib.Core.List.{List, []}
+use mathlib.Core.List.{List, [], ◌++◌}
 use mathlib.Core.Bool.{true}
 use native.Mathlib.Omega.{arith}
-use lib.ListN.{length}
-use borrow.Rule.Slice.PartMut.{put_mid, mid_of}
+use lib.ListN.{length, take, drop}
+use lib.Seq.{drop-append_seam}
 use Rattle.rules.specs.declared.Failure.{Failure}
 use Rattle.rules.specs.declared.Reply.{Reply}
 use Rattle.rules.specs.Words.{NONE}
@@ -18,31 +18,38 @@ use Rattle.invariants.proofs.Machine.{machine_grows}
 use Rattle.invariants.specs.Run.{Any}
 use Rattle.invariants.specs.Copy.{Nobody}
 use Rattle.store.specs.Said.{store}
-use Rattle.store.specs.FilledLaws.{filled_put, filled_again}
+use Rattle.store.specs.FilledLaws.{filled_again}
 use Rattle.store.specs.Clearing.{Cleared}
 use Rattle.store.specs.ClearingLaws.{clearing_table, clearing_solutions}
-use Rattle.machine.specs.declared.Ran.{Ran}
-use Rattle.machine.specs.declared.Ran.TheVariants.{Solved, Failed}
-use Rattle.machine.specs.Run.{ended}
+use Rattle.std.specs.Prelude.{Ok, Err}
+use Rattle.machine.specs.Run.{Ran, ended}
 use Rattle.machine.specs.Leaving.{Admits, Fails, LeftBehind}
 use Rattle.machine.specs.MachineLaws.{machine_none}
-use Rattle.machine.proofs.Pairs.{pairs_held}
-use Rattle.machine.proofs.Admitting.{part_length, admits_clearing, start_is}
+use Rattle.machine.proofs.Pairs.{lent_length}
+use Rattle.machine.proofs.Admitting.{admits_clearing, start_is}
 
 -- where the run has ended and the queue is emptied: what is left behind, whichever way it ended
 pub record Ended (R n : ℕ) (ws ss qs ws₁ ss₁ qs₁ : List ℕ) (x : Ran) : Type 0 where
-  pub solved : (u : ℕ) → x ≡ Solved u → LeftBehind admitted ws ss qs n ws₁ ss₁ qs₁ (reply 0 0 u)
-  pub failed : (y : Failure) (ws₂ ss₂ : List ℕ) (r : Reply) → x ≡ Failed y → Fails n R y ws₁ ss₁ ws₂ ss₂ r → LeftBehind admitted ws ss qs n ws₂ ss₂ qs₁ r
+  pub solved : (u : ℕ) → x ≡ Ok u → LeftBehind admitted ws ss qs n ws₁ ss₁ qs₁ (reply 0 0 u)
+  pub failed : (y : Failure) (ws₂ ss₂ : List ℕ) (r : Reply) → x ≡ Err y → Fails n R y ws₁ ss₁ ws₂ ss₂ r → LeftBehind admitted ws ss qs n ws₂ ss₂ qs₁ r
 
-module _ (R n : ℕ) (ws ss es : List ℕ) (k : ℕ) (a : Admits R n ws ss es k) where
+-- what was put in the first part does not matter when it is filled
+filled_lent : (k x : ℕ) (ws part : List ℕ) → length part ≡ k → filled 0 k x (part ++ drop k ws) ≡ filled 0 k x ws
+unfolding filled
+filled_lent k x ws part l =
+    let z : 0 + k ≡ k = omega arith in
+    let d : drop k (part ++ drop k ws) ≡ drop k ws = rw l at (drop-append_seam part (drop k ws)) in
+    rw (z, d) refl
+
+module _ (R n : ℕ) (ws ss es : List ℕ) (a : Admits R n ws ss es) where
   -- to clear again what was cleared changes nothing
   again_table : filled (4 * n) (4 * (R - n)) 0 (start ws ss n).words ≡ (start ws ss n).words
   unfolding start
-  again_table = rw a.room (filled_again (4 * n) (4 * (R - n)) 0 ws (clearing_table n R ws ss (admits_clearing R n ws ss es k a)))
+  again_table = rw a.room (filled_again (4 * n) (4 * (R - n)) 0 ws (clearing_table n R ws ss (admits_clearing R n ws ss es a)))
 
   again_solutions : filled 0 R NONE (start ws ss n).solutions ≡ (start ws ss n).solutions
   unfolding start
-  again_solutions = rw a.room (filled_again 0 R NONE ss (clearing_solutions n R ws ss (admits_clearing R n ws ss es k a)))
+  again_solutions = rw a.room (filled_again 0 R NONE ss (clearing_solutions n R ws ss (admits_clearing R n ws ss es a)))
 
   -- where the machine fails, what is outside stays, and so does what was not written
   failing : (C : ℕ) (ws₁ ss₁ : List ℕ) (e : Failure) → machine R C n (start ws ss n) ≡ fails ws₁ ss₁ e → Stopped R n (start ws ss n) ws₁ ss₁
@@ -63,26 +70,24 @@ module _ (R n : ℕ) (ws ss es : List ℕ) (k : ℕ) (a : Admits R n ws ss es k)
     out : (y : Ran) → x ≡ y → machine (records ws) (pairs qs) n (start ws ss n) ≡ ended ws₁ ss₁ y
     out y z = rw a.room (rw z at m)
 
-    left-solved : (u : ℕ) → x ≡ Solved u → LeftBehind admitted ws ss qs n ws₁ ss₁ qs₁ (reply 0 0 u)
+    left-solved : (u : ℕ) → x ≡ Ok u → LeftBehind admitted ws ss qs n ws₁ ss₁ qs₁ (reply 0 0 u)
     unfolding leaves
-    left-solved u z = rw (out (Solved u) z, leaves, e)
+    left-solved u z = rw (out (Ok u) z, leaves, e)
 
-    left_failed : (y : Failure) (ws₂ ss₂ : List ℕ) (r : Reply) → x ≡ Failed y → Fails n R y ws₁ ss₁ ws₂ ss₂ r → LeftBehind admitted ws ss qs n ws₂ ss₂ qs₁ r
+    left_failed : (y : Failure) (ws₂ ss₂ : List ℕ) (r : Reply) → x ≡ Err y → Fails n R y ws₁ ss₁ ws₂ ss₂ r → LeftBehind admitted ws ss qs n ws₂ ss₂ qs₁ r
     unfolding leaves
     left_failed y ws₂ ss₂ r z f =
         let s = failing (pairs qs) ws₁ ss₁ y (rw z at m) in
         let d = f.clears s.rest in
         let w : (start ws ss n).words ≡ ws₂ = sym (s.outside.table ∙ again_table) ∙ d.table in
         let v : (start ws ss n).solutions ≡ ss₂ = sym (s.outside.solutions ∙ again_solutions) ∙ d.solutions in
-        rw (out (Failed y) z, leaves, e, f.says, w, v)
+        rw (out (Err y) z, leaves, e, f.says, w, v)
 
   pub ends : (C : ℕ) (qs ws₀ ss₀ ws₁ ss₁ part qs₁ : List ℕ) (x : Ran) → pairs qs ≡ C → Cleared n R ws ss ws₀ ss₀ → machine R C n (store ws₀ ss₀ n) ≡ ended ws₁ ss₁ x
-      → length part ≡ length (mid_of 0 (2 * C - 0) qs) → filled 0 (2 * C) 0 (put_mid 0 (2 * C - 0) qs part) ≡ qs₁ → Ended R n ws ss qs ws₁ ss₁ qs₁ x
+      → length part ≡ length (take (2 * C) qs) → filled 0 (2 * C) 0 (part ++ drop (2 * C) qs) ≡ qs₁ → Ended R n ws ss qs ws₁ ss₁ qs₁ x
   unfolding emptied
   ends C qs ws₀ ss₀ ws₁ ss₁ part qs₁ x p c m l e =
-      let h = pairs_held qs C p in
-      let z : 2 * C - 0 ≡ 2 * C = omega arith in
-      let q : filled 0 (2 * C) 0 (put_mid 0 (2 * C - 0) qs part) ≡ filled 0 (2 * C) 0 qs = rw z (filled_put 0 (2 * C) 0 qs part (omega arith) (l ∙ part_length C qs h)) in
-      let run : machine R (pairs qs) n (start ws ss n) ≡ ended ws₁ ss₁ x = rw (p, start_is R n ws ss es k a ws₀ ss₀ c) m in
+      let q = filled_lent (2 * C) 0 qs part (l ∙ lent_length qs C p) in
+      let run : machine R (pairs qs) n (start ws ss n) ≡ ended ws₁ ss₁ x = rw (p, start_is R n ws ss es a ws₀ ss₀ c) m in
       let empty : emptied qs ≡ qs₁ = rw p (sym q ∙ e) in
       record { solved = left-solved qs ws₁ ss₁ qs₁ x run empty; failed = left_failed qs ws₁ ss₁ qs₁ x run empty }

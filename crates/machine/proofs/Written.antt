@@ -12,6 +12,7 @@ use Rattle.invariants.specs.Floor.{Rest}
 use Rattle.store.specs.FilledLaws.{filled_wider}
 use Rattle.store.specs.Clearing.{Clearing, Cleared}
 use Rattle.store.specs.Unused.{Unused}
+use Rattle.rules.specs.declared.Reply.{Reply}
 use Rattle.machine.specs.Leaving.{Fails}
 
 -- past what was written there is nothing to clear
@@ -40,8 +41,8 @@ module _ (n R u : ℕ) (ws ss : List ℕ) (h : Clearing n R ws ss) (f : Unused n
       let s : filled 0 u NONE ss ≡ filled 0 R NONE ss = rw m at (filled_wider (R - u) 0 u NONE NONE ss (omega arith) (λ j lo hi. p.free j (omega arith) (omega arith))) in
       record { table = sym t ∙ c.table; solutions = sym s ∙ c.solutions }
 
-  pub failure_replied : (e : Failure) (k : ℕ) (ws₁ ss₁ : List ℕ) → number e ≡ k → Cleared n u ws ss ws₁ ss₁ → Fails n R e ws ss ws₁ ss₁ (reply k 0 0)
-  failure_replied e k ws₁ ss₁ q c = record { says = rw q; clears = λ p. cleared_all ws₁ ss₁ p c }
+  pub failure_replied : (e : Failure) (k : ℕ) (r : Reply) (ws₁ ss₁ : List ℕ) → number e ≡ k → reply k 0 0 ≡ r → Cleared n u ws ss ws₁ ss₁ → Fails n R e ws ss ws₁ ss₁ r
+  failure_replied e k r ws₁ ss₁ q s c = record { says = rw q s; clears = λ p. cleared_all ws₁ ss₁ p c }
 
 -- up to where records were written
 pub clearing_to : (n R u : ℕ) (ws ss : List ℕ) → Clearing n R ws ss → Unused n R ws u u → Clearing n u ws ss

@@ -11,11 +11,11 @@ use Rattle.store.specs.Clearing.{Cleared}
 use Rattle.machine.specs.Start.{Noted}
 
 -- an admitted input, in R records, with the equations noted
-pub record Admits (R n : ℕ) (ws ss es : List ℕ) (k : ℕ) : Type 0 where
+pub record Admits (R n : ℕ) (ws ss es : List ℕ) : Type 0 where
   pub input : Admitted true ws ss n
   pub typed : Typed ws ss n
   pub room : records ws ≡ R
-  pub noted : Noted ws n es k
+  pub noted : Noted ws n es
 
 -- a failure's reply; where all but what was written is as it was cleared, all is cleared
 pub record Fails (n R : ℕ) (e : Failure) (ws ss ws₁ ss₁ : List ℕ) (r : Reply) : Type 0 where

@@ -8,61 +8,50 @@ ghost use Rattle.rules.specs.Machine.{machine as machine_of};
 ghost use Rattle.rules.specs.Solve.{admitted};
 ghost use Rattle.store.specs.Said.{store};
 ghost use Rattle.store.specs.Clearing.{Clearing};
-ghost use Rattle.queue.specs.Ring.{view};
+ghost use Rattle.queue.specs.Ring.{view, waiting};
 ghost use Rattle.step.specs.Stand.{Stood};
 ghost use Rattle.machine.specs.Run.{ended, Runs};
 ghost use Rattle.machine.specs.Start.{Started};
 ghost use Rattle.machine.specs.Leaving.{Admits, Fails, LeftBehind};
 
-use queue::{Joined, Ring, enter_equations, leave, peek};
+use queue::{Pair, Ring};
 use rules::{Failure, Reply};
 use step::{Step, take_step};
-use store::{clear, fill, first_unused};
+use store::{Part, clear, fill, first_unused};
+use table::reply;
 
-// What the run comes to: the records used, or the failure.
-#[derive(Clone, Copy)]
-pub enum Ran {
-    Solved(u32),
-    Failed(Failure),
-}
-
-// The pair in hand, and then those that wait, first in, first out, until none is left.
+// The pair in hand, and then those that wait, first in, first out, until none is left. The records used, or the failure.
 fn run(
     table: &mut [u32],
     solutions: &mut [u32],
     queue: &mut [u32],
-    n: u32,
-    room: u32,
-    cap: usize,
-    ring: Ring,
-    left: u32,
-    right: u32,
-) -> Ran
-    requires { Stood room n table.old solutions.old n queue.old cap ring left right }
-    ensures { Runs room cap ((left, right) ∷ view queue.old cap ring) table.old solutions.old n table.new solutions.new result }
+    part: Part,
+    mut ring: Ring,
+    mut pair: Pair,
+) -> Result<u32, Failure>
+    requires { Stood part.room part.n table.old solutions.old part.n queue.old ring pair.left pair.right }
+    ensures { Runs part.room ring.cap (waiting pair ∷ view queue.old ring) table.old solutions.old part.n table.new solutions.new result }
 {
-    let mut g = ring;
-    let mut u = n;
-    let mut l = left;
-    let mut r = right;
+    let mut used = part.n;
     'turns: loop {
-        match take_step(table, solutions, queue, n, u, room, cap, g, l, r) {
-            Step::Failed(e) => return Ran::Failed(e),
-            Step::On { left, right, used } => {
-                l = left;
-                r = right;
-                u = used;
+        match take_step(table, solutions, queue, part, used, ring, pair)? {
+            Step::On {
+                pair: bodies,
+                used: then,
+            } => {
+                pair = bodies;
+                used = then;
             }
-            Step::Done { ring: g1, used: u1 } => {
-                let count = g1.count;
-                if count == 0 {
-                    return Ran::Solved(u1);
+            Step::Done {
+                ring: left,
+                used: then,
+            } => {
+                if left.count == 0 {
+                    return Ok(then);
                 }
-                let p = peek(queue, g1);
-                l = p.left;
-                r = p.right;
-                g = leave(cap, g1);
-                u = u1;
+                pair = left.first(queue);
+                ring = left.leave();
+                used = then;
             }
         }
     }
@@ -74,35 +63,25 @@ fn start(
     solutions: &mut [u32],
     queue: &mut [u32],
     equations: &[u16],
-    count: usize,
-    n: u32,
-    room: u32,
+    part: Part,
     cap: usize,
-) -> Ran
-    requires { Started room n table.old solutions.old queue.old cap equations.now count }
-    ensures { machine_of room cap n (store table.old solutions.old n) ≡ ended table.new solutions.new result }
+) -> Result<u32, Failure>
+    requires { Started part.room part.n table.old solutions.old queue.old cap equations.now }
+    ensures { machine_of part.room cap part.n (store table.old solutions.old part.n) ≡ ended table.new solutions.new result }
 {
-    let Joined::To(ring) = enter_equations(table, queue, cap, equations, count) else {
-        return Ran::Failed(Failure::QueueFull);
-    };
-    let waiting = ring.count;
-    if waiting == 0 {
-        return Ran::Solved(n);
+    let ring = Ring::enter_equations(table, queue, cap, equations)?;
+    if ring.count == 0 {
+        return Ok(part.n);
     }
-    let p = peek(queue, ring);
-    let rest = leave(cap, ring);
-    run(table, solutions, queue, n, room, cap, rest, p.left, p.right)
+    let pair = ring.first(queue);
+    run(table, solutions, queue, part, ring.leave(), pair)
 }
 
-// C: the length divided by 2, rounded down, at most 1,024.
+// C: the length divided by 2, rounded down, at most 1,024. R is the like in `checks`: one expression each, plainer than a parameter for its numbers.
 fn pairs_of(queue: &[u32]) -> usize
     ensures { pairs queue.now ≡ result }
 {
-    let k = queue.len() / 2;
-    if k < 1024 {
-        return k;
-    }
-    1024
+    (queue.len() / 2).min(1024)
 }
 
 // This paper's number of each failure of the machine.
@@ -118,25 +97,18 @@ fn number_of(failure: Failure) -> u32
     }
 }
 
-// A failure leaves table and solutions cleared: past the records written they still are.
-fn reply_to_failure(
-    table: &mut [u32],
-    solutions: &mut [u32],
-    n: u32,
-    room: u32,
-    failure: Failure,
-) -> Reply
-    requires { Clearing n room table.old solutions.old }
-    ensures { Fails n room failure table.old solutions.old table.new solutions.new result }
+// A failure leaves table and solutions cleared: past the records written they still are. It has a function, as `number_of` has, since
+// both types are of a crate that has none, and an impl elsewhere would be an orphan.
+fn reply_to_failure(table: &mut [u32], solutions: &mut [u32], part: Part, failure: Failure) -> Reply
+    requires { Clearing part.n part.room table.old solutions.old }
+    ensures { Fails part.n part.room failure table.old solutions.old table.new solutions.new result }
 {
-    let answer = number_of(failure);
-    let used = first_unused(table, n, room);
-    clear(table, solutions, n, used);
-    Reply {
-        answer,
-        place: 0,
-        used: 0,
-    }
+    let written = Part {
+        room: first_unused(table, part),
+        ..part
+    };
+    clear(table, solutions, written);
+    reply(number_of(failure), 0)
 }
 
 // The machine runs from a cleared table, with the first C pairs of the queue lent on, which are emptied at its end.
@@ -145,33 +117,22 @@ pub fn machine(
     solutions: &mut [u32],
     queue: &mut [u32],
     equations: &[u16],
-    count: usize,
-    n: u32,
-    room: u32,
+    part: Part,
 ) -> Reply
-    requires { Admits room n table.old solutions.old equations.now count }
-    ensures { LeftBehind admitted table.old solutions.old queue.old n table.new solutions.new queue.new result }
+    requires { Admits part.room part.n table.old solutions.old equations.now }
+    ensures { LeftBehind admitted table.old solutions.old queue.old part.n table.new solutions.new queue.new result }
 {
     let cap = pairs_of(queue);
     let end = 2 * cap;
-    clear(table, solutions, n, room);
-    let outcome = start(
-        table,
-        solutions,
-        &mut queue[0..end],
-        equations,
-        count,
-        n,
-        room,
-        cap,
-    );
+    clear(table, solutions, part);
+    let outcome = start(table, solutions, &mut queue[..end], equations, part, cap);
     fill(queue, 0, end, 0);
     match outcome {
-        Ran::Solved(records) => Reply {
+        Ok(records) => Reply {
             answer: 0,
             place: 0,
             used: records,
         },
-        Ran::Failed(failure) => reply_to_failure(table, solutions, n, room, failure),
+        Err(failure) => reply_to_failure(table, solutions, part, failure),
     }
 }

@@ -4,13 +4,11 @@ use mathlib.Core.Path.{◌≡◌, refl, sym, ap, ◌∙◌}
 use mathlib.Core.List.{List, [], ◌∷◌, ◌++◌, map, append-nil, append_assoc}
 use mathlib.Core.Bool.{true, false}
 use native.Mathlib.Omega.{arith}
-use native.Mathlib.Numerals.{add-one}
 use native.Mathlib.Decide.{ℕ_discrete}
-use lib.ListN.{length, get_or, take, drop, set, length-set, replicate}
-use lib.Seq.{take-suc-set, drop-drop, get_or-drop}
+use lib.ListN.{length, get_or, drop, length-append}
+use lib.Seq.{drop-drop, get_or-drop, get_or-take}
 use lib.Dec.{eqb}
 use borrow.Author.Tests.{eq-eqb, ne_eqb}
-use Rattle.store.specs.declared.Walked.{Walked}
 use Rattle.table.specs.declared.Record.{Record}
 use Rattle.places.specs.declared.Map.{Map}
 use Rattle.table.specs.Reading.{IsRecord}
@@ -18,11 +16,10 @@ use Rattle.rules.specs.Words.{NONE, elements}
 use Rattle.rules.specs.Store.{push_cells}
 use Rattle.rules.specs.Map.{Map as Pairs, sources}
 use Rattle.laws.specs.Lists.{Listed, elements_none, elements_cell}
-use Rattle.store.specs.Said.{Does}
+use Rattle.store.specs.Said.{Answer, Does}
 use Rattle.places.specs.Maps.{leads, places_of, map_of, side}
 use Rattle.places.specs.MapsLaws.{leads_none, leads_some, places_length, places_more, places_end}
 use Rattle.places.specs.ListsLaws.{to_cell, to_rest}
-use Rattle.store.specs.Cells.{Celling}
 use Rattle.narrow.specs.Context.{contexts, Choosing}
 
 -- the elements whose positions have a place
@@ -57,40 +54,38 @@ placed_are zs j (w ∷ ws) (x ∷ xs) e d = go (ℕ_discrete w NONE) (placed_are
     go (no q) ih = ap (λ (m : Pairs). map (λ k. get_or zs k 0) (sources m)) (leads_some j w ws q) ∙ rw (here, ih) (sym (placed_some w ws x xs q))
 
 -- the entries at the first i positions are noted
-pub record Chosen (ws : List ℕ) (l : ℕ) (m : Map) (noted : List ℕ) (k i at : ℕ) : Type 0 where
+pub record Chosen (ws : List ℕ) (l : ℕ) (m : Map) (ys : List ℕ) (i at : ℕ) : Type 0 where
   pub list : Listed ws at
-  pub all : length noted ≡ 16
-  pub few : k ≤ i
+  pub few : length ys ≤ i
   pub arity : i + length (elements ws at) ≡ m.len
-  pub same : take k noted ++ placed (drop i (places_of m)) (elements ws at) ≡ placed (places_of m) (elements ws l)
+  pub same : ys ++ placed (drop i (places_of m)) (elements ws at) ≡ placed (places_of m) (elements ws l)
 
 module _ (ws : List ℕ) (n u R l : ℕ) (m : Map) (c : Choosing ws n u R l m) where
-  pub chosen_first : Chosen ws l m (replicate 16 0) 0 0 l
-  chosen_first = let a = c.arity in record { list = c.list; all = refl; few = omega arith; arity = omega arith; same = refl }
-
-  module _ (noted : List ℕ) (k i at : ℕ) (h : Chosen ws l m noted k i at) where
-    pub chosen_cells : Celling ws n u R noted k
-    chosen_cells = let a = h.all in let f = h.few in let w = h.arity in let b = c.whole.few in record { room = c.room; since = c.since; few = omega arith }
-
-    pub chosen_end : (ws₁ : List ℕ) (x : Walked) → m.len ≤ i → Does n (push_cells R (take k noted)) ws u ws₁ x → Does n (push_cells R (contexts ws l (side true (map_of false m)))) ws u ws₁ x
+  module _ (ys : List ℕ) (i at : ℕ) (h : Chosen ws l m ys i at) where
+    pub chosen_end : (ws₁ zs : List ℕ) (x : Answer) → length (places_of m) ≤ i → zs ≡ ys → Does n (push_cells R zs) ws u ws₁ x
+        → Does n (push_cells R (contexts ws l (side true (map_of false m)))) ws u ws₁ x
     unfolding map_of side placed
-    chosen_end ws₁ x g q =
-        let le = places_length m c.whole in
+    chosen_end ws₁ zs x g e q =
+        let le = places_length m in
         let ar = c.arity in
-        let z : take k noted ≡ placed (places_of m) (elements ws l) = sym (append-nil (take k noted)) ∙ (rw (places_end m c.whole i g) at h.same) in
-        let y : contexts ws l (sources (leads 0 (places_of m))) ≡ take k noted = placed_are (elements ws l) 0 (places_of m) (elements ws l) (omega arith) refl ∙ sym z in
+        let k : m.len ≤ i = omega arith in
+        let z : ys ≡ placed (places_of m) (elements ws l) = sym (append-nil ys) ∙ (rw (places_end m i k) at h.same) in
+        let y : contexts ws l (sources (leads 0 (places_of m))) ≡ zs = placed_are (elements ws l) 0 (places_of m) (elements ws l) (omega arith) refl ∙ sym z ∙ sym e in
         rw y q
 
-    module _ (g : i < m.len) where
+    module _ (g : i < length (places_of m)) where
+      within : i < m.len
+      within = let l = places_length m in omega arith
+
+      place : get_or (places_of m) i 0 ≡ get_or m.places i 0
+      place = get_or-take m.len m.places i 0 within
+
       -- the context has not ended
       more : at ≡ NONE → ⊥
-      more e = let z : length (elements ws at) ≡ 0 = rw (elements_none ws at e) in let a = h.arity in omega arith
+      more e = let z : length (elements ws at) ≡ 0 = rw (elements_none ws at e) in let a = h.arity in let k = within in omega arith
 
       pub chosen_read : 4 * at + 3 < length ws
       chosen_read = to_cell ws at more h.list
-
-      pub chosen_slot : k < 16
-      chosen_slot = let f = c.whole.few in let w = h.few in omega arith
 
       module _ (w : Record) (e : IsRecord ws at w) where
         cell : elements ws at ≡ w.a ∷ elements ws w.b
@@ -99,24 +94,21 @@ module _ (ws : List ℕ) (n u R l : ℕ) (m : Map) (c : Choosing ws n u R l m) w
         arity_rest : (i + 1) + length (elements ws w.b) ≡ m.len
         arity_rest = let a = h.arity in let z : length (elements ws at) ≡ suc (length (elements ws w.b)) = rw cell in omega arith
 
-        pub chosen_skip : get_or m.places i 0 ≡ NONE → Chosen ws l m noted k (i + 1) w.b
+        pub chosen_skip : get_or (places_of m) i 0 ≡ NONE → Chosen ws l m ys (i + 1) w.b
         chosen_skip q =
             let f = h.few in
-            let z : placed (drop i (places_of m)) (elements ws at) ≡ placed (drop (i + 1) (places_of m)) (elements ws w.b) = rw (places_more m c.whole i g, cell) (placed_none _ _ _ _ q) in
-            record { list = to_rest ws at w more e h.list; all = h.all; few = omega arith; arity = arity_rest; same = rw (← z) h.same }
+            let z : placed (drop i (places_of m)) (elements ws at) ≡ placed (drop (i + 1) (places_of m)) (elements ws w.b) = rw (places_more m i within, cell) (placed_none _ _ _ _ (sym place ∙ q)) in
+            record { list = to_rest ws at w more e h.list; few = omega arith; arity = arity_rest; same = rw (← z) h.same }
 
-        pub chosen_takes : (get_or m.places i 0 ≡ NONE → ⊥) → Chosen ws l m (set noted k w.a) (k + 1) (i + 1) w.b
-        chosen_takes q =
+        pub chosen_takes : (ys₁ : List ℕ) → (get_or (places_of m) i 0 ≡ NONE → ⊥) → ys₁ ≡ ys ++ w.a ∷ [] → Chosen ws l m ys₁ (i + 1) w.b
+        chosen_takes ys₁ q t =
             let f = h.few in
-            let a = h.all in
-            let s = chosen_slot in
-            let b : k < length noted = omega arith in
-            let t : take (k + 1) (set noted k w.a) ≡ take k noted ++ (w.a ∷ []) = rw (add-one k) (take-suc-set noted k w.a b) in
-            let z : placed (drop i (places_of m)) (elements ws at) ≡ w.a ∷ placed (drop (i + 1) (places_of m)) (elements ws w.b) = rw (places_more m c.whole i g, cell) (placed_some _ _ _ _ q) in
+            let k : length ys₁ ≡ length ys + 1 = rw t (length-append ys (w.a ∷ [])) in
+            let z : placed (drop i (places_of m)) (elements ws at) ≡ w.a ∷ placed (drop (i + 1) (places_of m)) (elements ws w.b) =
+            rw (places_more m i within, ← place, cell) (placed_some _ _ _ _ q) in
             record {
               list = to_rest ws at w more e h.list;
-              all = length-set noted k w.a ∙ a;
               few = omega arith;
               arity = arity_rest;
-              same = rw (t, append_assoc (take k noted) (w.a ∷ []), ← z) h.same;
+              same = rw (t, append_assoc ys (w.a ∷ []), ← z) h.same;
             }

@@ -3,7 +3,6 @@ use Rattle.std.specs.Prelude.{ℕ, ◌*◌, ◌≤◌, ◌≡◌, List, map, len
 use Rattle.places.specs.declared.Map.{Map}
 use Rattle.rules.specs.Words.{elements}
 use Rattle.laws.specs.Lists.{Listed}
-use Rattle.places.specs.Maps.{Whole}
 
 -- the context entries at these positions
 abbrev pub contexts : List ℕ → ℕ → List ℕ → List ℕ
@@ -13,6 +12,5 @@ contexts ws l ks = map (λ k. get_or (elements ws l) k 0) ks
 pub record Choosing (ws : List ℕ) (n u R l : ℕ) (m : Map) : Type 0 where
   pub room : 4 * R ≤ length ws
   pub since : n ≤ u
-  pub whole : Whole m
   pub list : Listed ws l
   pub arity : length (elements ws l) ≡ m.len

@@ -4,54 +4,36 @@
 ghost use Rattle.std.specs.Prelude.{◌≡◌, map, min};
 ghost use Rattle.rules.specs.Lists.{among};
 ghost use Rattle.rules.specs.Words.{field_a, is_term, elements};
+ghost use Rattle.laws.specs.Lists.{Listed};
 ghost use Rattle.laws.specs.Places.{ListAt};
 ghost use Rattle.patterns.specs.Occurrences.{different, occurrence};
 
-use table::{NONE, VA, Variable, read};
-
-// The lesser of two numbers.
-fn lesser(a: u32, b: u32) -> u32
-    ensures { result ≡ min a b }
-{
-    if a < b { a } else { b }
-}
+use table::{NONE, VA, Variable, elements, read};
 
 // A variable is among those that the arguments name.
 fn named(table: &[u32], l: u32, v: Variable) -> bool
-    requires { ListAt (is_term table.now) table.now l }
+    requires { Listed table.now l }
     ensures { result ≡ among (map (λ x. field_a table.now x) (elements table.now l)) v.0 }
 {
-    let mut list = l;
-    while list != NONE {
-        let cell = read(table, list);
-        let x = read(table, cell.a);
-        if x.a == v.0 {
+    for at in elements(table, l) {
+        if read(table, at).a == v.0 {
             return true;
         }
-        list = cell.b;
     }
     false
 }
 
 // All arguments are bare variables with different numbers.
 fn different(table: &[u32], l: u32) -> bool
-    requires { ListAt (is_term table.now) table.now l }
+    requires { Listed table.now l }
     ensures { result ≡ different table.now l }
 {
-    let mut list = l;
-    while list != NONE {
-        let cell = read(table, list);
-        let x = read(table, cell.a);
-        if x.tag != VA {
+    let mut left = elements(table, l);
+    while let Some(at) = left.next() {
+        let x = read(table, at);
+        if x.tag != VA || x.b != NONE || named(table, left.list, Variable(x.a)) {
             return false;
         }
-        if x.b != NONE {
-            return false;
-        }
-        if named(table, cell.b, Variable(x.a)) {
-            return false;
-        }
-        list = cell.b;
     }
     true
 }
@@ -64,5 +46,5 @@ pub fn offended(table: &[u32], low: u32, at: u32, l: u32) -> u32
     if different(table, l) {
         return low;
     }
-    lesser(low, at)
+    low.min(at)
 }

@@ -22,8 +22,8 @@ unfolding fill
 fill-variables ws j [] = refl
 fill-variables ws j (x ∷ xs) = ap (λ (l : List ℕ). field_a ws x ∷ l) (fill-variables ws (j + 1) xs)
 
-pub arguments_are : (ws : List ℕ) (l : ℕ) (r : Map) → Filled (variable_at ws) ws l r → Arguments ws l r
-arguments_are ws l r h = record { run = h.places ∙ fill-variables ws 0 (elements ws l); len = h.len; whole = h.whole }
+pub arguments_are : (ws : List ℕ) (l : ℕ) (r : Map) → Filled (variable_at ws) (elements ws l) r → Arguments ws l r
+arguments_are ws l r h = record { run = h.places ∙ fill-variables ws 0 (elements ws l); len = h.len }
 
 -- what is filled in
 abbrev pub position_at : ℕ → ℕ → ℕ
@@ -39,10 +39,10 @@ unfolding from
 from_low i zero h = tt
 from_low i (suc k) h = (omega arith, from_low (i + 1) k (omega arith))
 
-pub in_order : (ws : List ℕ) (l : ℕ) (r : Map) → Filled position_at ws l r → Ordered ws l r
+pub in_order : (ws : List ℕ) (l : ℕ) (r : Map) → Filled position_at (elements ws l) r → Ordered ws l r
 unfolding map_of below
 in_order ws l r h =
-    let f = h.whole.few in
+    let f = r.few in
     let n = h.len in
     let p : places_of r ≡ from 0 (length (elements ws l)) = h.places ∙ fill_positions 0 (elements ws l) in
-    record { run = rw p (leads-variables 0 (from 0 (length (elements ws l))) (from_low 0 (length (elements ws l)) (omega arith))); len = n; whole = h.whole }
+    record { run = rw p (leads-variables 0 (from 0 (length (elements ws l))) (from_low 0 (length (elements ws l)) (omega arith))); len = n }

@@ -1,48 +1,40 @@
 -- Whether every position of a map has a place.
-use Prim.Native.Nat.{ℕ, ◌+◌, ◌-◌, ◌<◌, ◌≤◌}
-use mathlib.Core.Path.{◌≡◌, sym, ap}
-use mathlib.Core.Bool.{true, false}
+use Prim.Native.Nat.{ℕ, suc, ◌+◌}
+use mathlib.Core.Path.{◌≡◌, sym, ap, ◌∙◌}
+use mathlib.Core.Bool.{false, not}
+use mathlib.Core.List.{List, [], ◌∷◌}
 use native.Mathlib.Omega.{arith}
-use lib.ListN.{length, get_or, drop, length-drop}
+use native.Mathlib.Decide.{ℕ_discrete}
+use lib.ListN.{length}
 use lib.Dec.{eqb}
 use borrow.Author.Tests.{eq-eqb, ne_eqb}
+use Rattle.std.specs.List.{list_all}
 use Rattle.rules.specs.Words.{NONE}
 use Rattle.places.specs.declared.Map.{Map}
-use Rattle.places.specs.Maps.{leads, places_of, map_of, Whole}
-use Rattle.places.specs.MapsLaws.{leads_none, leads_some, leads_few, places_length, places_more, places_end}
+use Rattle.places.specs.Maps.{leads, places_of, map_of}
+use Rattle.places.specs.MapsLaws.{leads_none, leads_some, leads_few, places_length}
 
--- the first i positions have a place
-pub record Passed (m : Map) (i : ℕ) : Type 0 where
-  pub within : i ≤ m.len
-  pub same : length (map_of false m) ≡ i + length (leads i (drop i (places_of m)))
+eqb_suc : (a b : ℕ) → eqb a b ≡ eqb (suc a) (suc b)
+eqb_suc a b = go (ℕ_discrete a b)
+  where
+    go : Dec (a ≡ b) → eqb a b ≡ eqb (suc a) (suc b)
+    go (yes e) = eq-eqb _ _ e ∙ sym (eq-eqb _ _ (ap suc e))
+    go (no n) = let k : suc a ≡ suc b → ⊥ = λ e. n (omega arith) in ne_eqb _ _ n ∙ sym (ne_eqb _ _ k)
 
-pub passed_first : (m : Map) → Passed m 0
+-- no place is NONE where each position leads somewhere
+lead_all : (j : ℕ) (ws : List ℕ) → list_all (λ w. not (eqb w NONE)) ws ≡ eqb (length (leads j ws)) (length ws)
+unfolding leads
+lead_all j [] = sym (eq-eqb 0 0 (omega arith))
+lead_all j (w ∷ ws) = go (ℕ_discrete w NONE) (lead_all (j + 1) ws)
+  where
+    go : Dec (w ≡ NONE) → list_all (λ v. not (eqb v NONE)) ws ≡ eqb (length (leads (j + 1) ws)) (length ws)
+        → list_all (λ v. not (eqb v NONE)) (w ∷ ws) ≡ eqb (length (leads j (w ∷ ws))) (length (w ∷ ws))
+    go (yes e) ih =
+        let f = leads_few (j + 1) ws in
+        let n : length (leads (j + 1) ws) ≡ suc (length ws) → ⊥ = omega arith in
+        rw (eq-eqb _ _ e, leads_none j w ws e) (sym (ne_eqb _ _ n))
+    go (no n) ih = rw (ne_eqb _ _ n, leads_some j w ws n) (ih ∙ eqb_suc _ _)
+
+pub all_placed : (m : Map) → list_all (λ w. not (eqb w NONE)) (places_of m) ≡ eqb (length (map_of false m)) m.len
 unfolding map_of
-passed_first m = record { within = omega arith; same = omega arith }
-
-module _ (m : Map) (i : ℕ) (p : Whole m) (h : Passed m i) where
-  pub passed_on : i < m.len → (get_or m.places i 0 ≡ NONE → ⊥) → Passed m (i + 1)
-  passed_on g e =
-      let k : length (leads i (drop i (places_of m))) ≡ 1 + length (leads (i + 1) (drop (i + 1) (places_of m))) = rw (places_more m p i g, leads_some i _ (drop (i + 1) (places_of m)) e) (omega arith) in
-      let s = h.same in
-      record { within = omega arith; same = omega arith }
-
-  pub not_passed : i < m.len → get_or m.places i 0 ≡ NONE → false ≡ eqb (length (map_of false m)) m.len
-  not_passed g e =
-      let k : leads i (drop i (places_of m)) ≡ leads (i + 1) (drop (i + 1) (places_of m)) = rw (places_more m p i g) (leads_none i _ (drop (i + 1) (places_of m)) e) in
-      let q : length (leads i (drop i (places_of m))) ≡ length (leads (i + 1) (drop (i + 1) (places_of m))) = ap length k in
-      let f = leads_few (i + 1) (drop (i + 1) (places_of m)) in
-      let l : length (drop (i + 1) (places_of m)) ≡ length (places_of m) - (i + 1) = length-drop (i + 1) (places_of m) in
-      let a = places_length m p in
-      let s = h.same in
-      let n : length (map_of false m) ≡ m.len → ⊥ = omega arith in
-      sym (ne_eqb _ _ n)
-
-  pub all_passed : m.len ≤ i → true ≡ eqb (length (map_of false m)) m.len
-  unfolding leads
-  all_passed g =
-      let k : length (leads i (drop i (places_of m))) ≡ 0 = rw (places_end m p i g) in
-      let w = h.within in
-      let s = h.same in
-      let e : length (map_of false m) ≡ m.len = omega arith in
-      sym (eq-eqb _ _ e)
+all_placed m = lead_all 0 (places_of m) ∙ ap (λ (n : ℕ). eqb (length (leads 0 (places_of m))) n) (places_length m)

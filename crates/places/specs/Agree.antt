@@ -5,7 +5,7 @@ use Rattle.rules.specs.Words.{NONE, elements}
 use Rattle.rules.specs.Map.{sources}
 use Rattle.rules.specs.Machine.{agreeing}
 use Rattle.laws.specs.Lists.{Listed}
-use Rattle.places.specs.Maps.{map_of, Whole}
+use Rattle.places.specs.Maps.{map_of}
 use Rattle.places.specs.Lists.{Counts, vars_of}
 
 -- what comparing asks: two lists that can be read, of the same length
@@ -18,7 +18,6 @@ pub record Comparing (ws : List ℕ) (l r : ℕ) : Type 0 where
 pub record Agrees (ws : List ℕ) (l r : ℕ) (x : Map) : Type 0 where
   pub run : sources (map_of false x) ≡ agreeing 0 (vars_of ws l) (vars_of ws r)
   pub len : x.len ≡ length (elements ws l)
-  pub whole : Whole x
 
 -- position j, or NONE where the two differ
 unfoldable pub agreed : ℕ → ℕ → ℕ → ℕ

@@ -1,30 +1,26 @@
 -- An array of places filled along arguments of each of which something holds.
-use Rattle.std.specs.Prelude.{ℕ, ◌+◌, ◌≡◌, List, ◌∷◌, set}
-use Rattle.table.specs.declared.Record.{Record}
+use Rattle.std.specs.Prelude.{ℕ, ◌≤◌, ◌≡◌, List, ◌∷◌, map, length}
 use Rattle.places.specs.declared.Map.{Map}
-use Rattle.table.specs.Reading.{IsRecord}
-use Rattle.rules.specs.Words.{NONE, field_a}
-use Rattle.laws.specs.Lists.{elements_cell}
+use Rattle.rules.specs.Words.{field_a}
 use Rattle.invariants.specs.Floor.{All}
-use Rattle.places.specs.Maps.{no_place}
-use Rattle.places.specs.Lists.{Counts, vars_of}
+use Rattle.places.specs.Maps.{Unplaced, Pushed}
 use Rattle.places.specs.FillingLaws.{Filling, filling-first, filling-more}
 
--- filling, and P holds of each argument from a cell on
-pub record Along (P : ℕ → Type 0) (g : ℕ → ℕ → ℕ) (ws : List ℕ) (l : ℕ) (places : List ℕ) (j at : ℕ) : Type 0 where
-  pub filling : Filling g ws l places j at
-  pub each : All P (vars_of ws at)
+-- filling, and P holds of each argument that is left
+pub record Along (P : ℕ → Type 0) (g : ℕ → ℕ → ℕ) (ws ys : List ℕ) (m : Map) (xs : List ℕ) : Type 0 where
+  pub filling : Filling g ys m xs
+  pub each : All P (map (λ x. field_a ws x) xs)
 
-module _ (P : ℕ → Type 0) (g : ℕ → ℕ → ℕ) (ws : List ℕ) (l : ℕ) where
-  pub along_first : (m : Map) → Counts ws l → All P (vars_of ws l) → no_place ≡ m → Along P g ws l m.places 0 l
-  along_first m h a e = record { filling = filling-first g ws l m h e; each = a }
+module _ (P : ℕ → Type 0) (g : ℕ → ℕ → ℕ) (ws ys : List ℕ) (m : Map) where
+  pub along_first : length ys ≤ 16 → All P (map (λ x. field_a ws x) ys) → Unplaced m → Along P g ws ys m ys
+  along_first f a e = record { filling = filling-first g ys m f e; each = a }
 
-  module _ (places : List ℕ) (j at : ℕ) (h : Along P g ws l places j at) (n : at ≡ NONE → ⊥) (w : Record) (e : IsRecord ws at w) where
-    both : All P (field_a ws w.a ∷ vars_of ws w.b)
-    both = rw (e.a_is, e.b_is) (rw (elements_cell ws at n h.filling.list) at h.each)
+  module _ (xs : List ℕ) (h : Along P g ws ys m xs) (x : ℕ) (zs : List ℕ) (e : xs ≡ x ∷ zs) where
+    both : All P (field_a ws x ∷ map (λ y. field_a ws y) zs)
+    both = rw e at h.each
 
-    pub along_here : (x : ℕ) → field_a ws w.a ≡ x → P x
-    along_here x q = rw (← q) both.0
+    pub along_here : (v : ℕ) → field_a ws x ≡ v → P v
+    along_here v q = rw (← q) both.0
 
-    pub along_more : (v : ℕ) → g j w.a ≡ v → Along P g ws l (set places j v) (j + 1) w.b
-    along_more v q = record { filling = filling-more g ws l places j at h.filling n w e v q; each = both.1 }
+    pub along_more : (v : ℕ) (m₁ : Map) → g m.len x ≡ v → Pushed m v m₁ → Along P g ws ys m₁ zs
+    along_more v m₁ q p = record { filling = filling-more g ys m xs h.filling x zs e v m₁ q p; each = both.1 }

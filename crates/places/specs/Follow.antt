@@ -4,7 +4,7 @@ use Rattle.places.specs.declared.Map.{Map}
 use Rattle.rules.specs.Words.{elements}
 use Rattle.rules.specs.Map.{follow}
 use Rattle.invariants.specs.Floor.{All}
-use Rattle.places.specs.Maps.{map_of, Whole}
+use Rattle.places.specs.Maps.{map_of}
 use Rattle.places.specs.Looking.{Looks, Within}
 use Rattle.places.specs.Lists.{Counts, vars_of}
 
@@ -18,4 +18,3 @@ pub record Following (ws : List ℕ) (b : Bool) (m : Map) (d l : ℕ) : Type 0 w
 pub record Followed (ws : List ℕ) (b : Bool) (m : Map) (d l : ℕ) (r : Map) : Type 0 where
   pub run : map_of false r ≡ follow (map_of b m) d 0 (vars_of ws l)
   pub len : r.len ≡ length (elements ws l)
-  pub whole : Whole r

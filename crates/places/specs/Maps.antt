@@ -1,5 +1,5 @@
 -- The map by value, read as the rules' list of pairs: from places to positions, or from positions to places.
-use Rattle.std.specs.Prelude.{ℕ, ◌+◌, ◌≤◌, ◌≡◌, List, [], ◌∷◌, Bool, true, false, length, take, replicate, eqb}
+use Rattle.std.specs.Prelude.{ℕ, ◌+◌, ◌≡◌, List, [], ◌∷◌, Bool, true, false, take, set, replicate, eqb}
 use Rattle.rules.specs.Words.{NONE}
 use Rattle.rules.specs.Map.{Map as Pairs, sources, targets, to_positions}
 use Rattle.places.specs.declared.Map.{Map}
@@ -23,11 +23,12 @@ unfoldable pub side : Bool → Pairs → List ℕ
 side true m = sources m
 side false m = targets m
 
--- the map without a place
-abbrev pub no_place : Map
-no_place = record { places = replicate 16 NONE; len = 0 }
+-- no position, and no place anywhere in the array
+pub record Unplaced (m : Map) : Type 0 where
+  pub places : m.places ≡ replicate 16 NONE
+  pub len : m.len ≡ 0
 
--- the array is whole, and its positions are no more than 16
-pub record Whole (m : Map) : Type 0 where
-  pub all : length m.places ≡ 16
-  pub few : m.len ≤ 16
+-- the next position has this place
+pub record Pushed (m : Map) (w : ℕ) (m₁ : Map) : Type 0 where
+  pub places : m₁.places ≡ set m.places m.len w
+  pub len : m₁.len ≡ m.len + 1

@@ -4,7 +4,7 @@ use Rattle.std.proofs.Common.{arith, add-one, drop_of_length-le, drop-cons, get_
 use Rattle.std.proofs.Math.Decide.{ℕ_discrete}
 use Rattle.rules.specs.Words.{NONE}
 use Rattle.places.specs.declared.Map.{Map}
-use Rattle.places.specs.Maps.{leads, places_of, Whole}
+use Rattle.places.specs.Maps.{leads, places_of}
 
 pub leads_none : (j w : ℕ) (ws : List ℕ) → w ≡ NONE → leads j (w ∷ ws) ≡ leads (j + 1) ws
 unfolding leads
@@ -23,9 +23,9 @@ leads_few j (w ∷ ws) = go (ℕ_discrete w NONE) (leads_few (j + 1) ws)
     go (yes e) h = rw (leads_none j w ws e) (omega arith)
     go (no e) h = rw (leads_some j w ws e) (omega arith)
 
-module _ (m : Map) (h : Whole m) where
+module _ (m : Map) where
   pub places_length : length (places_of m) ≡ m.len
-  places_length = let a = h.all in let f = h.few in length-take-le m.len m.places (omega arith)
+  places_length = let a = m.whole in let f = m.few in length-take-le m.len m.places (omega arith)
 
   -- the places from the i-th on
   pub places_more : (i : ℕ) → i < m.len → drop i (places_of m) ≡ get_or m.places i 0 ∷ drop (i + 1) (places_of m)

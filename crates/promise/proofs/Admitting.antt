@@ -1,11 +1,10 @@
 -- A table whose equations' sides are typed patterns at their types passes the checks of typing and of patterns.
 use Prim.Native.Nat.{ℕ, ◌<◌, ◌≤◌}
-use Rattle.std.specs.Prelude.{◌≡◌, List, [], ◌∷◌, map, Bool, not}
+use Rattle.std.specs.Prelude.{◌≡◌, List, [], ◌∷◌, map, Bool, not, None}
 use Rattle.std.proofs.Math.Path.{refl}
 use Rattle.std.proofs.Math.Bool.{true, false}
 use native.Mathlib.Omega.{arith}
 use borrow.Author.Tests.{eqb-true}
-use Rattle.rules.specs.declared.Found.TheVariants.{Nowhere}
 use Rattle.rules.specs.Lists.{both, those, from, below, least, enough}
 use Rattle.rules.specs.Words.{tag, field_a, field_b, field_c, NONE, EQ, has, is_term}
 use Rattle.rules.specs.Answers.{records}
@@ -55,7 +54,7 @@ module _ (ws : List ℕ) (n : ℕ) (g : Sound ws n) (room : n ≤ records ws) (h
       let x = h e l t in
       equation_checks ws n g (omega (arith, room)) e l t x.0 x.1
 
-  pub typed_nowhere : ill_typed ws n ≡ Nowhere
+  pub typed_nowhere : ill_typed ws n ≡ None
   unfolding ill_typed both
   typed_nowhere = lowest_nowhere n (λ e. both (has ws e EQ) (not (typed ws e))) (λ e l. go e l (has ws e EQ) refl)
     where

@@ -1,10 +1,8 @@
 -- What is known where a term is copied or shown: every position of its context has a place. A copy appends, so what was known is known after it.
-use Rattle.std.specs.Prelude.{ℕ, ◌+◌, ◌-◌, ◌<◌, ◌≤◌, ◌≡◌}
+use Rattle.std.specs.Prelude.{ℕ, ◌+◌, ◌-◌, ◌<◌, ◌≤◌, ◌≡◌, Option, Some, None}
 use Rattle.std.proofs.Common.{sym, ◌∙◌, arith, lt-ltb, le-ltb}
 use Rattle.std.proofs.Math.Option.{some}
 use Rattle.std.proofs.Math.Decide.{dec_lt}
-use Rattle.rules.specs.declared.Found.{Found}
-use Rattle.rules.specs.declared.Found.TheVariants.{At, Nowhere}
 use Rattle.rules.specs.Words.{tag, field_a, field_b, NONE, HA, variables}
 use Rattle.rules.specs.Store.{Store, goes}
 use Rattle.rules.specs.Map.{Map, lookup, place_of}
@@ -35,7 +33,7 @@ full_place {m} {c} f d v h = go (dec_lt v d)
     go (yes l) = (v, rw (lt-ltb v d l, place_of))
     go (no l) =
         let p = f.place_at (v - d) (omega arith) in
-        let e : lookup m (v - d) ≡ At p.0 = option_at (lookup m (v - d)) p.0 (sym (place_zero m (v - d)) ∙ p.1) in
+        let e : lookup m (v - d) ≡ Some p.0 = option_at (lookup m (v - d)) p.0 (sym (place_zero m (v - d)) ∙ p.1) in
         (p.0 + d, rw (le-ltb v d (omega arith), place_of, e))
 
 -- and every argument of an occurrence
@@ -43,9 +41,9 @@ pub full_arguments : {R : ℕ} {s : Store} {m : Map} {c d r : ℕ} → Full m c 
 full_arguments {s = s} {d = d} {r} f k e = all_map _ _ (full_place f d) (variables s.words r) (known-arguments k e)
 
 -- the place that was found, or 0
-abbrev found : Found → ℕ
-found (At w) = w
-found Nowhere = 0
+abbrev found : Option ℕ → ℕ
+found (Some w) = w
+found None = 0
 
 placed : (m : Map) (d v : ℕ) → HasPlace m d v → place m d v ≡ some (found (place_of m d v))
 placed m d v h = rw h.1

@@ -1,11 +1,9 @@
 -- What show's answer 0 means: the output is the run's filling of an input hole, and so is the printed text.
-use Rattle.std.specs.Prelude.{ℕ, zero, suc, ◌*◌, ◌-◌, ◌≤◌, ◌≡◌, List, Bool, true, false, length, ltb}
+use Rattle.std.specs.Prelude.{ℕ, zero, suc, ◌*◌, ◌-◌, ◌≤◌, ◌≡◌, List, Bool, true, false, length, ltb, Option, Some, None}
 use Rattle.std.proofs.Math.Path.{refl}
 use Rattle.std.proofs.Common.{ap, ◌∙◌, subst, arith, length-append, length-take, length-drop, ltb-true, eqb-true}
 use Rattle.std.proofs.Math.Option.{some}
 use Rattle.std.proofs.lemmas.List.{length-replicate}
-use Rattle.rules.specs.declared.Found.{Found}
-use Rattle.rules.specs.declared.Found.TheVariants.{At, Nowhere}
 use Rattle.rules.specs.Lists.{both, either, enough}
 use Rattle.rules.specs.Words.{HO, has}
 use Rattle.rules.specs.declared.Refused.TheVariants.{NoRoom, Broken, NoHole}
@@ -73,10 +71,10 @@ unasked_refused : (ws ss qs : List ℕ) (n : ℕ) → (leaves (refusal false ws 
 unfolding refusal leaves
 unasked_refused ws ss qs n e = go (either (ltb (records ws) n) (ltb (length ss) (records ws))) refl (broken ws n) refl
   where
-    go : (a : Bool) → either (ltb (records ws) n) (ltb (length ss) (records ws)) ≡ a → (b : Found) → broken ws n ≡ b → ⊥
+    go : (a : Bool) → either (ltb (records ws) n) (ltb (length ss) (records ws)) ≡ a → (b : Option ℕ) → broken ws n ≡ b → ⊥
     go true x b y = let z : (refusing NoRoom).answer ≡ 0 = rw (x, refusal) at e in omega arith
-    go false x (At r) y = let z : (refusing (Broken r)).answer ≡ 0 = rw (x, refusal, y) at e in omega arith
-    go false x Nowhere y = let z : (refusing NoHole).answer ≡ 0 = rw (x, refusal, y) at e in omega arith
+    go false x (Some r) y = let z : (refusing (Broken r)).answer ≡ 0 = rw (x, refusal, y) at e in omega arith
+    go false x None y = let z : (refusing NoHole).answer ≡ 0 = rw (x, refusal, y) at e in omega arith
 
 asked : (ws ss qs os : List ℕ) (n h : ℕ) → (show ws ss qs os n h).behind.said.answer ≡ 0 → both (ltb h n) (has ws h HO) ≡ true
 unfolding show

@@ -1,9 +1,8 @@
 -- What the answers of solving mean.
-use Rattle.std.specs.Prelude.{ℕ, ◌≤◌, ◌≡◌, refl, List, true}
+use Rattle.std.specs.Prelude.{ℕ, ◌≤◌, ◌≡◌, refl, List, true, Some, None}
 use Rattle.std.proofs.Common.{sym, ◌∙◌, inl, inr, arith}
 use Rattle.rules.specs.declared.Failure.{Failure}
 use Rattle.rules.specs.declared.Failure.TheVariants.{Clash, Escape, Occurs, QueueFull, TableFull}
-use Rattle.rules.specs.declared.Found.TheVariants.{At, Nowhere}
 use Rattle.rules.specs.declared.Refused.{Refused}
 use Rattle.rules.specs.declared.Refused.TheVariants.{NoRoom, Broken, IllTyped, NoPattern}
 use Rattle.rules.specs.Answers.{number, reply, refusing, records, pairs}
@@ -25,7 +24,7 @@ use Rattle.promise.proofs.Admitting.{typed_nowhere, typed_clean}
 use Rattle.promise.specs.Ending.{Final}
 use Rattle.promise.proofs.Ending.{final_expands, machine_ends, sides-typed}
 
-found_not : (r : ℕ) → At r ≡ Nowhere → ⊥
+found_not : (r : ℕ) → Some r ≡ None → ⊥
 found_not r e = let z : ◌≡◌ {A = ℕ} 0 1 = cc in omega arith
 
 -- points 1 and 2

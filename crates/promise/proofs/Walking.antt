@@ -1,6 +1,6 @@
 -- The walk over records is a walk over trees: it follows solved holes, keeps or narrows unsolved ones, and fails where a tree's walk is lost.
 use Prim.Native.Nat.{ℕ, zero, suc, ◌+◌, ◌<◌}
-use Rattle.std.specs.Prelude.{◌≡◌, Bool, true, false, ◌≢◌, length, eqb}
+use Rattle.std.specs.Prelude.{◌≡◌, Bool, true, false, ◌≢◌, length, eqb, Option, ℕ, Some, None}
 use Rattle.std.proofs.Math.Path.{refl}
 use Rattle.std.proofs.Common.{sym, ap, ◌∙◌, subst, arith, eqb-true}
 use mathlib.Core.List.{List}
@@ -8,8 +8,6 @@ use Rattle.std.proofs.Math.Option.{none, some, none-ne-some}
 use Rattle.std.proofs.lemmas.Bool.{eqb-false}
 use Rattle.rules.specs.declared.Failure.{Failure}
 use Rattle.rules.specs.declared.Failure.TheVariants.{Escape, Occurs}
-use Rattle.rules.specs.declared.Found.{Found}
-use Rattle.rules.specs.declared.Found.TheVariants.{At, Nowhere}
 use Rattle.rules.specs.Words.{field_a, LA, CA, VA, variables}
 use Rattle.rules.specs.Store.{Store, solved, solution}
 use Rattle.rules.specs.Map.{Map, sources, targets, place_of, follow}
@@ -152,11 +150,11 @@ module _ (R u : ℕ) where
   walk_ends (suc n) k m d r s D σ (var v a) i (r_var {xs = xs} l e x y g q) h z =
       go (place_of m d v) refl (all_walked R u _ (walk_ends n) m d xs s D σ a i (reads_later same_refl (lower l) q) h)
     where
-      go : (o : Found) → place_of m d v ≡ o
+      go : (o : Option ℕ) → place_of m d v ≡ o
           → Ends (WalkedAll R u D σ (place m d) a s) (LostBy u 1 D σ (place m d) a) (write_all (λ m' d' r' s'. walk n R u m' d' r' s') R m d xs s)
           → Ends (Walked R u D σ (place m d) (var v a) s) (LostBy u k D σ (place m d) (var v a)) (walk (suc n) R u m d r s)
-      go Nowhere o ih = rw (form_var s.words r e, write_term, x, o) (fail_ends s Escape (l_escape (ap option o)))
-      go (At p) o ih =
+      go None o ih = rw (form_var s.words r e, write_term, x, o) (fail_ends s Escape (l_escape (ap option o)))
+      go (Some p) o ih =
           rw (form_var s.words r e, write_term, x, o, listed-arguments r y g)
           (bind_ends _ ih (lost_map u 1 k l_var) λ s₁ b w.
           map_ends (lost_full u k D σ (place m d) (var v a)) (λ s₂ j f. record {

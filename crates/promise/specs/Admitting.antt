@@ -1,14 +1,12 @@
 -- What comes before the machine: what an admitted table is, and that past answers 4 and 5 every equation's sides are typed patterns at its type.
 use Prim.Native.Nat.{ℕ, zero, suc, ◌+◌, ◌<◌, ◌≤◌, min}
-use Rattle.std.specs.Prelude.{◌≡◌, List, [], ◌∷◌, Bool, not, length, eqb, ltb}
+use Rattle.std.specs.Prelude.{◌≡◌, List, [], ◌∷◌, Bool, not, length, eqb, ltb, Option, ℕ, Some, None}
 use Rattle.std.proofs.Math.Path.{refl, ap}
 use Rattle.std.proofs.Common.{sym, ◌∙◌}
 use Rattle.std.proofs.Math.Bool.{true, false}
 use native.Mathlib.Omega.{arith}
 use Rattle.std.proofs.Math.Decide.{ℕ_discrete}
 use borrow.Author.Tests.{ltb-false, eqb-true, eqb-false, eq-eqb}
-use Rattle.rules.specs.declared.Found.{Found}
-use Rattle.rules.specs.declared.Found.TheVariants.{At, Nowhere}
 use Rattle.rules.specs.declared.Refused.TheVariants.{NoRoom, Broken, IllTyped, NoPattern}
 use Rattle.rules.specs.Lists.{both, either, those, from, below, enough}
 use Rattle.rules.specs.Words.{tag, field_a, field_b, field_c, NONE, EQ, has, is_term}
@@ -33,7 +31,7 @@ pub record Admitted (ws ss : List ℕ) (n : ℕ) : Type 0 where
   pub room : n ≤ records ws
   pub answers : records ws ≤ length ss
   pub sound : Sound ws n
-  pub typed : ill_typed ws n ≡ Nowhere
+  pub typed : ill_typed ws n ≡ None
   pub pattern : no_pattern ws n ≡ NONE
 
 -- the refusals
@@ -41,7 +39,7 @@ pub data Refuses (ws ss : List ℕ) (n : ℕ) : Refusal → Type 0 where
   admits : Admitted ws ss n → Refuses ws ss n admitted
   short : Refuses ws ss n (refused NoRoom)
   breaks : {r : ℕ} → Refuses ws ss n (refused (Broken r))
-  ill : {r : ℕ} → n ≤ records ws → Sound ws n → ill_typed ws n ≡ At r → Refuses ws ss n (refused (IllTyped r))
+  ill : {r : ℕ} → n ≤ records ws → Sound ws n → ill_typed ws n ≡ Some r → Refuses ws ss n (refused (IllTyped r))
   offends : {r : ℕ} → n ≤ records ws → Sound ws n → no_pattern ws n ≡ r → (r ≡ NONE → ⊥) → Refuses ws ss n (refused (NoPattern r))
 
 either_false : (a b : Bool) → either a b ≡ false → (a ≡ false) × (b ≡ false)
@@ -53,14 +51,14 @@ pub refusal_is : (ws ss : List ℕ) (n : ℕ) → Refuses ws ss n (refusal true 
 unfolding refusal
 refusal_is ws ss n = go (either (ltb (records ws) n) (ltb (length ss) (records ws))) refl (broken ws n) refl (ill_typed ws n) refl (eqb (no_pattern ws n) NONE) refl
   where
-    go : (a : Bool) → either (ltb (records ws) n) (ltb (length ss) (records ws)) ≡ a → (b : Found) → broken ws n ≡ b → (c : Found) → ill_typed ws n ≡ c → (d : Bool)
+    go : (a : Bool) → either (ltb (records ws) n) (ltb (length ss) (records ws)) ≡ a → (b : Option ℕ) → broken ws n ≡ b → (c : Option ℕ) → ill_typed ws n ≡ c → (d : Bool)
         → eqb (no_pattern ws n) NONE ≡ d → Refuses ws ss n (refusal true ws ss n)
     go true x b y c z d w = rw (x, refusal) short
-    go false x (At r) y c z d w = rw (x, refusal, y) breaks
-    go false x Nowhere y (At r) z d w = rw (x, refusal, y, z) (ill (ltb-false _ _ (either_false _ _ x).0) (broken_none ws n y) z)
-    go false x Nowhere y Nowhere z false w =
+    go false x (Some r) y c z d w = rw (x, refusal, y) breaks
+    go false x None y (Some r) z d w = rw (x, refusal, y, z) (ill (ltb-false _ _ (either_false _ _ x).0) (broken_none ws n y) z)
+    go false x None y None z false w =
         rw (x, refusal, y, z, w) (offends (ltb-false _ _ (either_false _ _ x).0) (broken_none ws n y) refl (eqb-false _ _ w))
-    go false x Nowhere y Nowhere z true w =
+    go false x None y None z true w =
         let f = either_false _ _ x in
         rw (x, refusal, y, z, w)
         (admits (record { room = ltb-false _ _ f.0; answers = ltb-false _ _ f.1; sound = broken_none ws n y; typed = z; pattern = eqb-true _ _ w }))

@@ -1,32 +1,30 @@
 -- The maps of the rules as partial maps: what a map says at a depth, from positions to variables and back.
-use Rattle.std.specs.Prelude.{ℕ, zero, suc, ◌+◌, ◌-◌, ◌<◌, ◌≤◌, ◌≡◌, refl, List, [], ◌∷◌, ◌≢◌, length}
+use Rattle.std.specs.Prelude.{ℕ, zero, suc, ◌+◌, ◌-◌, ◌<◌, ◌≤◌, ◌≡◌, refl, List, [], ◌∷◌, ◌≢◌, length, Option as Found, Some, None}
 use Rattle.std.proofs.Common.{sym, ap, ◌∙◌, arith, lt-ltb, le-ltb, eq-eqb, ne_eqb}
 use Rattle.std.proofs.Math.Path.{fun_ext}
 use Rattle.std.proofs.Math.Option.{Option, none, some, none-ne-some, some-injective}
 use Rattle.std.proofs.Math.Decide.{dec_lt, ℕ_discrete}
-use Rattle.rules.specs.declared.Found.{Found}
-use Rattle.rules.specs.declared.Found.TheVariants.{At, Nowhere}
 use Rattle.rules.specs.Map.{Map, lookup, place_of, to_positions, to_variables}
 use Rattle.trees.specs.Tree.{AllL, Distinct, nth}
 use Rattle.trees.specs.Moves.{omap, liftp, Inverts}
 
 -- a search's answer as an option
-abbrev pub option : Found → Option ℕ
-option (At v) = some v
-option Nowhere = none
+abbrev pub option : Found ℕ → Option ℕ
+option (Some v) = some v
+option None = none
 
-pub option_at : (x : Found) (v : ℕ) → option x ≡ some v → x ≡ At v
-option_at (At w) v e = ap At (some-injective w v e)
-option_at Nowhere v e = absurd (none-ne-some v e)
+pub option_at : (x : Found ℕ) (v : ℕ) → option x ≡ some v → x ≡ Some v
+option_at (Some w) v e = ap Some (some-injective w v e)
+option_at None v e = absurd (none-ne-some v e)
 
 -- the partial map that a map is, under d lambdas
 abbrev pub place : Map → ℕ → ℕ → Option ℕ
 place m d v = option (place_of m d v)
 
 -- one more lambda
-shifted : (d : ℕ) (x : Found) → option (elim x as (λ _. Found) [ At w ↦ At (w + (d + 1)) | Nowhere ↦ Nowhere ]) ≡ omap suc (option (elim x as (λ _. Found) [ At w ↦ At (w + d) | Nowhere ↦ Nowhere ]))
-shifted d (At w) = ap some (omega arith)
-shifted d Nowhere = refl
+shifted : (d : ℕ) (x : Found ℕ) → option (elim x as (λ _. Found ℕ) [ Some w ↦ Some (w + (d + 1)) | None ↦ None ]) ≡ omap suc (option (elim x as (λ _. Found ℕ) [ Some w ↦ Some (w + d) | None ↦ None ]))
+shifted d (Some w) = ap some (omega arith)
+shifted d None = refl
 
 pub place-lift : (m : Map) (d : ℕ) → place m (d + 1) ≡ liftp (place m d)
 unfolding place_of
@@ -44,15 +42,15 @@ place-lift m d = fun_ext (elim [ zero ↦ at_zero | suc v ↦ at_suc v (dec_lt v
         rw (le-ltb (suc v) (d + 1) k, le-ltb v d l, place_of, e) (shifted d (lookup m (v - d)))
 
 -- the map at depth 0 is the lookup
-zeroed : (x : Found) → option (elim x as (λ _. Found) [ At w ↦ At (w + 0) | Nowhere ↦ Nowhere ]) ≡ option x
-zeroed (At w) = ap some (omega arith)
-zeroed Nowhere = refl
+zeroed : (x : Found ℕ) → option (elim x as (λ _. Found ℕ) [ Some w ↦ Some (w + 0) | None ↦ None ]) ≡ option x
+zeroed (Some w) = ap some (omega arith)
+zeroed None = refl
 
 pub place_zero : (m : Map) (v : ℕ) → place m 0 v ≡ option (lookup m v)
 unfolding place_of
 place_zero m v = let h : 0 ≤ v = omega arith in let e : v - 0 ≡ v = omega arith in rw (le-ltb v 0 h, place_of, e) (zeroed (lookup m v))
 
-pub lookup-here : (x y : ℕ) (m : Map) (v : ℕ) → x ≡ v → lookup ((x, y) ∷ m) v ≡ At y
+pub lookup-here : (x y : ℕ) (m : Map) (v : ℕ) → x ≡ v → lookup ((x, y) ∷ m) v ≡ Some y
 unfolding lookup
 lookup-here x y m v e = rw (eq-eqb x v e, lookup)
 

@@ -1,83 +1,68 @@
 -- The equations that were noted, entered in order.
 use Prim.Native.Nat.{ℕ, ◌+◌, ◌*◌, ◌<◌, ◌≤◌}
-use mathlib.Core.Path.{◌≡◌, refl, ◌∙◌}
+use mathlib.Core.Path.{◌≡◌, sym, subst, ◌∙◌}
 use mathlib.Core.List.{List, [], ◌∷◌, map-append}
 use native.Mathlib.Omega.{arith}
 use native.Mathlib.Numerals.{add-one}
 use lib.ListN.{length, get_or, take, length-map}
-use lib.Seq.{take-suc, length-take-le}
-use mir.Syntax.{w64}
-use mir.Val.{Fits}
+use lib.Seq.{take-suc, take-length}
+use Rattle.std.specs.Prelude.{Ok, Err}
+use Rattle.rules.specs.declared.Failure.TheVariants.{QueueFull}
 use Rattle.table.specs.declared.Record.{Record}
 use Rattle.table.specs.Reading.{IsRecord}
 use Rattle.queue.specs.declared.Ring.{Ring}
-use Rattle.queue.specs.declared.Joined.TheVariants.{Full, To}
-use Rattle.queue.specs.Ring.{Fine, Roomy, view, Joins, Queued, no_pair}
+use Rattle.queue.specs.Ring.{Fine, Roomy, view, Joins}
 use Rattle.queue.specs.RingLaws.{view_none}
-use Rattle.queue.proofs.Joining.{queued_full, queued_to}
-use Rattle.queue.specs.Equations.{sides, sides_of, Entering}
+use Rattle.queue.specs.Equations.{sides, sides_of, Entering, Alone, Enters}
 
 -- while entering: the first i wait
-pub record Entered (ws q₀ : List ℕ) (cap : ℕ) (es : List ℕ) (k i : ℕ) (q : List ℕ) (g : Ring) : Type 0 where
-  pub same : length q ≡ length q₀
-  pub within : i ≤ k
-  pub fits : k ≤ cap
-  pub fine : Fine q cap g
+pub record Entered (ws : List ℕ) (cap : ℕ) (es : List ℕ) (i : ℕ) (q : List ℕ) (g : Ring) : Type 0 where
+  pub within : i ≤ length es
+  pub few : length es ≤ cap
+  pub same : g.cap ≡ cap
+  pub fine : Fine q g
   pub counted : g.count ≡ i
-  pub seen : view q cap g ≡ sides_of ws (take i es)
+  pub seen : view q g ≡ sides_of ws (take i es)
 
-module _ (ws q₀ : List ℕ) (cap : ℕ) (es : List ℕ) (k : ℕ) (p : Entering ws q₀ cap es k) where
-  sides_long : length (sides_of ws (take k es)) ≡ k
+module _ (ws q₀ : List ℕ) (cap : ℕ) (es : List ℕ) (p : Entering ws q₀ cap es) where
+  sides_long : length (sides_of ws es) ≡ length es
   unfolding sides_of
-  sides_long = rw (length-map (take k es) (sides ws), length-take-le k es p.long)
+  sides_long = length-map es (sides ws)
 
-  pub entered_full : cap < k → Queued q₀ cap no_pair (sides_of ws (take k es)) q₀ Full
-  entered_full lt = let l = sides_long in queued_full q₀ cap no_pair (sides_of ws (take k es)) q₀ (omega arith)
+  pub entered_full : cap < length es → Enters cap (sides_of ws es) q₀ (Err QueueFull)
+  entered_full lt = let l = sides_long in record { full = λ e z. (let y : QueueFull ≡ e = cc in sym y, omega arith); to = λ g z. let y : ◌≡◌ {A = ℕ} 0 1 = cc in absurd (omega arith) }
 
-  pub entered_first : k ≤ cap → Entered ws q₀ cap es k 0 q₀ no_pair
+  pub entered_first : (g : Ring) → length es ≤ cap → g.cap ≡ cap → g.count ≡ 0 → Entered ws cap es 0 q₀ g
   unfolding sides_of
-  entered_first le =
-      record {
-        same = refl;
-        within = omega arith;
-        fits = le;
-        fine = record { room = p.room; head = omega arith; count = omega arith; few = p.few };
-        counted = refl;
-        seen = view_none q₀ cap no_pair refl;
-      }
+  entered_first g le c n = record { within = omega arith; few = le; same = c; fine = rw c p.room; counted = n; seen = view_none q₀ g n }
 
-  module _ (i : ℕ) (q : List ℕ) (g : Ring) (h : Entered ws q₀ cap es k i q g) where
-    pub entered_end : k ≤ i → Queued q₀ cap no_pair (sides_of ws (take k es)) q (To g)
+  module _ (i : ℕ) (q : List ℕ) (g : Ring) (h : Entered ws cap es i q g) where
+    pub entered_end : length es ≤ i → Enters cap (sides_of ws es) q (Ok g)
     entered_end le =
-        let w = h.within in
-        let z : i ≡ k = omega arith in
-        let l = sides_long in
         let c = h.counted in
-        queued_to q₀ cap no_pair (sides_of ws (take k es)) q g (record { fine = h.fine; counted = omega arith; seen = rw (view_none q₀ cap no_pair refl) (rw z at h.seen) })
+        let l = sides_long in
+        let w = h.within in
+        let z : i ≡ length es = omega arith in
+        let here : Alone cap (sides_of ws es) q g = record { same = h.same; fine = h.fine; counted = omega arith; seen = rw (z, take-length es) at h.seen } in
+        record { full = λ e z. let y : ◌≡◌ {A = ℕ} 0 1 = cc in absurd (omega arith); to = λ g₁ z. let y : g ≡ g₁ = cc in subst (λ g₁. Alone cap (sides_of ws es) q g₁) y here }
 
-    module _ (lt : i < k) where
-      pub entering_place : Fits w64 (i * 2)
-      entering_place = let f = h.fits in let c = p.few in record { fits = omega arith }
-
-      pub entering_noted : i < length es
-      entering_noted = let l = p.long in omega arith
-
+    module _ (lt : i < length es) where
       pub entering_read : 4 * get_or es i 0 + 3 < length ws
       entering_read = p.inside i lt
 
-      pub entering_room : Roomy q cap g 1
-      entering_room = let f = h.fits in let c = h.counted in record { fine = h.fine; room = omega arith }
+      pub entering_room : Roomy q g 1
+      entering_room = let f = h.few in let c = h.counted in let d = h.same in record { fine = h.fine; room = omega arith }
 
-      pub entered_one : (w : Record) (q₁ : List ℕ) (g₁ : Ring) → IsRecord ws (get_or es i 0) w → length q₁ ≡ length q → Joins q cap g ((w.a, w.b) ∷ []) q₁ g₁ → Entered ws q₀ cap es k (i + 1) q₁ g₁
+      pub entered_one : (w : Record) (q₁ : List ℕ) (g₁ : Ring) → IsRecord ws (get_or es i 0) w → Joins q g ((w.a, w.b) ∷ []) q₁ g₁ → Entered ws cap es (i + 1) q₁ g₁
       unfolding sides_of
-      entered_one w q₁ g₁ e l j =
+      entered_one w q₁ g₁ e j =
           let c = h.counted in
           let d = j.counted in
           record {
-            same = l ∙ h.same;
             within = omega arith;
-            fits = h.fits;
+            few = h.few;
+            same = j.same ∙ h.same;
             fine = j.fine;
             counted = omega arith;
-            seen = rw (add-one i, take-suc es i 0 entering_noted, map-append (sides ws) (take i es) (get_or es i 0 ∷ []), ← e.a_is, ← e.b_is, ← h.seen) j.seen;
+            seen = rw (add-one i, take-suc es i 0 lt, map-append (sides ws) (take i es) (get_or es i 0 ∷ []), ← e.a_is, ← e.b_is, ← h.seen) j.seen;
           }

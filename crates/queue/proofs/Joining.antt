@@ -1,15 +1,16 @@
 -- What joining does to a ring.
 use Prim.Native.Nat.{ℕ, zero, suc, ◌+◌, ◌-◌, ◌*◌, ◌<◌, ◌≤◌}
-use mathlib.Core.Path.{◌≡◌, sym, ◌∙◌}
+use mathlib.Core.Path.{◌≡◌, refl, sym, subst, ◌∙◌}
 use mathlib.Core.List.{List, [], ◌∷◌, ◌++◌, append-nil, append_assoc}
 use mathlib.Core.Logic.{◌⊎◌, inl, inr}
 use native.Mathlib.Omega.{arith}
 use native.Mathlib.Numerals.{add-one}
 use lib.ListN.{length, get_or, set, length-set}
 use lib.Seq.{get_or-set_other, get_or-set_same}
+use Rattle.std.specs.Prelude.{Ok, Err}
+use Rattle.rules.specs.declared.Failure.TheVariants.{QueueFull}
 use Rattle.rules.specs.Machine.{Pair as Waiting}
 use Rattle.queue.specs.declared.Ring.{Ring}
-use Rattle.queue.specs.declared.Joined.TheVariants.{Full, To}
 use Rattle.queue.specs.Ring.{wrap, from, view, Fine, Wraps, Roomy, Joins, Queued}
 use Rattle.queue.specs.RingLaws.{wrap_in, wrap_out, wrap_after}
 
@@ -64,34 +65,40 @@ wraps_in cap x h = record { is = wrap_in cap x h; low = h }
 pub wraps_out : (cap x : ℕ) → cap ≤ x → x < cap + cap → Wraps cap x (x - cap)
 wraps_out cap x h g = record { is = wrap_out cap x h; low = omega arith }
 
-pub queued_full : (q : List ℕ) (cap : ℕ) (g : Ring) (new : List Waiting) (q₁ : List ℕ) → cap < g.count + length new → Queued q cap g new q₁ Full
-queued_full q cap g new q₁ h = record { full = λ e. h; to = λ g₁ e. let z : ◌≡◌ {A = ℕ} 0 1 = cc in absurd (omega arith) }
+pub queued_full : (q : List ℕ) (g : Ring) (new : List Waiting) (q₁ : List ℕ) → g.cap < g.count + length new → Queued q g new q₁ (Err QueueFull)
+queued_full q g new q₁ h = record { full = λ e z. (let y : QueueFull ≡ e = cc in sym y, h); to = λ g₁ z. let y : ◌≡◌ {A = ℕ} 0 1 = cc in absurd (omega arith) }
 
-pub queued_to : (q : List ℕ) (cap : ℕ) (g : Ring) (new : List Waiting) (q₁ : List ℕ) (g₁ : Ring) → Joins q cap g new q₁ g₁ → Queued q cap g new q₁ (To g₁)
-queued_to q cap g new q₁ g₁ j = record { full = λ e. let z : ◌≡◌ {A = ℕ} 0 1 = cc in absurd (omega arith); to = λ g₂ e. let z : g₁ ≡ g₂ = cc in rw (← z) j }
+pub queued_to : (q : List ℕ) (g : Ring) (new : List Waiting) (q₁ : List ℕ) (g₁ : Ring) → Joins q g new q₁ g₁ → Queued q g new q₁ (Ok g₁)
+queued_to q g new q₁ g₁ j = record { full = λ e z. let y : ◌≡◌ {A = ℕ} 0 1 = cc in absurd (omega arith); to = λ g₂ z. let y : g₁ ≡ g₂ = cc in subst (λ g₂. Joins q g new q₁ g₂) y j }
 
-pub joins_none : (q : List ℕ) (cap : ℕ) (g : Ring) → Fine q cap g → Joins q cap g [] q g
-joins_none q cap g f = record { fine = f; counted = omega arith; seen = sym (append-nil _) }
+pub joins_none : (q : List ℕ) (g : Ring) → Fine q g → Joins q g [] q g
+joins_none q g f = record { same = refl; fine = f; counted = omega arith; seen = sym (append-nil _) }
 
-pub joins_more : (q : List ℕ) (cap : ℕ) (g : Ring) (p : Waiting) (new : List Waiting) (q₁ : List ℕ) (g₁ : Ring) (q₂ : List ℕ) (g₂ : Ring)
-    → Joins q cap g (p ∷ []) q₁ g₁ → Joins q₁ cap g₁ new q₂ g₂ → Joins q cap g (p ∷ new) q₂ g₂
-joins_more q cap g p new q₁ g₁ q₂ g₂ a b =
+pub joins_more : (q : List ℕ) (g : Ring) (p : Waiting) (new : List Waiting) (q₁ : List ℕ) (g₁ : Ring) (q₂ : List ℕ) (g₂ : Ring)
+    → Joins q g (p ∷ []) q₁ g₁ → Joins q₁ g₁ new q₂ g₂ → Joins q g (p ∷ new) q₂ g₂
+joins_more q g p new q₁ g₁ q₂ g₂ a b =
     let c = a.counted in
     let d = b.counted in
-    record { fine = b.fine; counted = omega arith; seen = b.seen ∙ rw a.seen (append_assoc (view q cap g) (p ∷ []) new) }
+    record { same = b.same ∙ a.same; fine = b.fine; counted = omega arith; seen = b.seen ∙ rw a.seen (append_assoc (view q g) (p ∷ []) new) }
 
-pub joins_at : (q : List ℕ) (cap : ℕ) (g : Ring) (l r at : ℕ) → Roomy q cap g 1 → Wraps cap (g.head + g.count) at
-    → Joins q cap g ((l, r) ∷ []) (set (set q (2 * at) l) (2 * at + 1) r) (record { head = g.head; count = g.count + 1 })
-unfolding view
-joins_at q cap g l r at h e =
-    let i = e.is in
-    let room = h.room in
-    let head = h.fine.head in
-    let w = wrap_after cap (g.head + g.count) (omega arith) in
-    let b : at < cap = rw i at w.0 in
-    let a : After cap g.head g.count at = rw i at w.1 in
-    record {
-      fine = record { room = simp length-set h.fine.room; head = head; count = omega arith; few = h.fine.few };
-      counted = omega arith;
-      seen = rw (add-one g.count) (joined q cap at l r h.fine.room b g.count g.head (omega arith) (omega arith) a);
-    }
+module _ (q : List ℕ) (g : Ring) (h : Roomy q g 1) where
+  -- the place after the last pair is one round the ring
+  pub roomy_place : g.head + g.count < g.cap + g.cap
+  roomy_place = let r = h.room in let i = g.inside in omega arith
+
+  pub joins_at : (l r at : ℕ) (g₁ : Ring) → Wraps g.cap (g.head + g.count) at → g₁.cap ≡ g.cap → g₁.head ≡ g.head → g₁.count ≡ g.count + 1
+      → Joins q g ((l, r) ∷ []) (set (set q (2 * at) l) (2 * at + 1) r) g₁
+  unfolding view
+  joins_at l r at g₁ e c d n =
+      let i = e.is in
+      let room = h.room in
+      let head = g.inside in
+      let w = wrap_after g.cap (g.head + g.count) roomy_place in
+      let b : at < g.cap = rw i at w.0 in
+      let a : After g.cap g.head g.count at = rw i at w.1 in
+      record {
+        same = c;
+        fine = rw c (simp length-set h.fine);
+        counted = omega arith;
+        seen = rw (c, d, n, add-one g.count) (joined q g.cap at l r h.fine b g.count g.head (omega arith) (omega arith) a);
+      }

@@ -16,6 +16,6 @@ pub record Both (ws : List ℕ) (l r : ℕ) : Type 0 where
   pub right : Listed ws r
   pub same : length (elements ws l) ≡ length (elements ws r)
 
-pub record Joining (ws q : List ℕ) (cap : ℕ) (g : Ring) (l r : ℕ) : Type 0 where
+pub record Joining (ws q : List ℕ) (g : Ring) (l r : ℕ) : Type 0 where
   pub both : Both ws l r
-  pub fine : Fine q cap g
+  pub fine : Fine q g

@@ -22,9 +22,9 @@ use Rattle.records.proofs.Joined.{all-below}
 -- Two records of a chain
 
 module _ (ws : List ℕ) (j : ℕ) (x : Record) where
-  pub equals-tag : (tag ws j ≡ x.tag → ⊥) → false ≡ equals ws j x
+  pub equals-tag : (t : ℕ) → t ≡ tag ws j → (t ≡ x.tag → ⊥) → eqb t x.tag ≡ equals ws j x
   unfolding equals both
-  equals-tag n = rw (ne_eqb _ _ n)
+  equals-tag t e n = rw (← e, ne_eqb _ _ n)
 
   pub equals-a : tag ws j ≡ x.tag → (a : ℕ) → a ≡ field_a ws j → eqb a x.a ≡ equals ws j x
   unfolding equals both

@@ -3,6 +3,7 @@ use Prim.Native.Nat.{ℕ, ◌+◌, ◌<◌, ◌≤◌}
 use mathlib.Core.Path.{◌≡◌, refl, sym, ◌∙◌}
 use mathlib.Core.Bool.{Bool, true, false, not}
 use mathlib.Core.List.{List}
+use mathlib.Core.Logic.{◌⊎◌, inl, inr}
 use native.Mathlib.Omega.{arith}
 use borrow.Author.Tests.{ltb-true, ltb-false, eq-eqb, ne_eqb, lt-leb, le-leb, lt-ltb, le-ltb}
 use lib.ListN.{length, get_or, set}
@@ -36,17 +37,24 @@ module _ (ms : List ℕ) (r x : ℕ) where
 -- A range of marks
 
 module _ (ms : List ℕ) (r low high x m : ℕ) (e : m ≡ lower_mark ms r x) where
-  pub lies_low : m < low → false ≡ lies ms r low high x
-  lies_low h = rw (← e) (sym (within_low low high m h))
+  out_low : m < low → false ≡ lies ms r low high x
+  out_low h = rw (← e) (sym (within_low low high m h))
+
+  pub lies_low : m < low → leb low m ≡ lies ms r low high x
+  lies_low h = lt-leb _ _ h ∙ out_low h
 
   pub lies_high : low ≤ m → leb m high ≡ lies ms r low high x
   lies_high h = rw (← e) (sym (within-from low high m h))
 
-  pub referred_low : m < low → ReferredSays ms ms r low high x false
-  referred_low h = record { answer = lies_low h; next = λ t. absurd (false_true t) }
+  referred_low : m < low → ReferredSays ms ms r low high x false
+  referred_low h = record { answer = out_low h; next = λ t. absurd (false_true t) }
 
-  pub referred_high : high < m → ReferredSays ms ms r low high x false
+  referred_high : high < m → ReferredSays ms ms r low high x false
   referred_high h = record { answer = rw (← e) (sym (within_high low high m h)); next = λ t. absurd (false_true t) }
+
+  pub referred_out : (m < low) ⊎ ((low ≤ m) × (high < m)) → ReferredSays ms ms r low high x false
+  referred_out (inl h) = referred_low h
+  referred_out (inr h) = referred_high h.1
 
   module _ (p : ReferredAsks ms r low high) (h : low ≤ m) where
     lower : x < r

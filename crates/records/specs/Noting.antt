@@ -1,12 +1,9 @@
 -- The records of one tag are noted in record order.
-use Rattle.std.specs.Prelude.{ℕ, ◌+◌, ◌*◌, ◌<◌, ◌≡◌, List, length}
-use Rattle.rules.specs.declared.Found.{Found}
-use Rattle.rules.specs.declared.Found.TheVariants.{At, Nowhere}
+use Rattle.std.specs.Prelude.{ℕ, ◌+◌, ◌*◌, ◌<◌, ◌≡◌, List, length, Option, Some, None, Result, Ok, Err}
 use Rattle.rules.specs.Words.{EQ, has}
 use Rattle.rules.specs.Records.{broken}
 use Rattle.laws.specs.Noted.{Noted as Noted-of}
-use Rattle.records.specs.declared.Pass.{Pass}
-use Rattle.records.specs.declared.Pass.TheVariants.{Broken, Sound}
+use Rattle.records.specs.declared.Broken.{Broken}
 
 -- the first k of the notes are the records of tag t among the first r
 abbrev pub Noted : ℕ → List ℕ → List ℕ → ℕ → ℕ → Type 0
@@ -20,11 +17,11 @@ pub record NoteAsks (t : ℕ) (ws es : List ℕ) (k r : ℕ) : Type 0 where
   pub lower : Noted t ws es k r
 
 -- where a pass found a broken record
-abbrev pub found_of : Pass → Found
-found_of (Broken r) = At r
-found_of (Sound k) = Nowhere
+abbrev pub found_of : Result ℕ Broken → Option ℕ
+found_of (Err r) = Some r.0
+found_of (Ok k) = None
 
 -- the lowest broken record; where there is none, all equations are noted
-pub record BrokenSays (ws es : List ℕ) (n : ℕ) (x : Pass) : Type 0 where
+pub record BrokenSays (ws es : List ℕ) (n : ℕ) (x : Result ℕ Broken) : Type 0 where
   pub found : found_of x ≡ broken ws n
-  pub noted : (k : ℕ) → x ≡ Sound k → Noted EQ ws es k n
+  pub noted : (k : ℕ) → x ≡ Ok k → Noted EQ ws es k n

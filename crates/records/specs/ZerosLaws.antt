@@ -1,19 +1,13 @@
--- Arrays of zeros are blank marks.
+-- Blank notes serve: arrays of zeros are blank marks.
 use Rattle.std.specs.Prelude.{ℕ, ◌*◌, ◌<◌, ◌≤◌, ◌≡◌, List, length, get_or, replicate}
-use Rattle.std.proofs.Common.{arith}
 use Rattle.std.proofs.lemmas.List.{length-replicate, get_or-replicate}
-use Rattle.records.specs.Rows.{Room, BrokenAsks}
+use Rattle.records.specs.declared.Notes.{Notes}
+use Rattle.records.specs.Notes.{blank}
+use Rattle.records.specs.Rows.{BrokenAsks}
 
--- arrays of k zeros serve for at most k records
-module _ (k : ℕ) (small : k ≤ 4096) (ws : List ℕ) (n : ℕ) (le : n ≤ k) where
-  long : n ≤ length (replicate {A = ℕ} k 0)
-  long = simp length-replicate le
-
-  room : Room (replicate k 0) (replicate k 0) (replicate k 0) n
-  room = record { marks = long; last = long; before = long }
-
-  pub zeros_ask : 4 * n ≤ length ws → BrokenAsks ws (replicate k 0) (replicate k 0) (replicate k 0) (replicate k 0) n
-  zeros_ask inside = record { inside = inside; few = omega arith; blank = record { room = room; last = zeros }; equations = long }
-    where
-      zeros : (x : ℕ) → x < length (replicate {A = ℕ} k 0) → get_or {A = ℕ} (replicate k 0) x 0 ≡ 0
-      zeros x l = get_or-replicate {A = ℕ} k x 0 0 (simp length-replicate at l)
+-- blank notes for k records serve for at most k records
+pub zeros_ask : (k : ℕ) (x : Notes k) → x ≡ blank k → (ws : List ℕ) (n : ℕ) → n ≤ k → n ≤ 4096 → 4 * n ≤ length ws → BrokenAsks ws x n
+zeros_ask k x e ws n le few inside = rw e (record { inside = inside; few = few; room = le; blank = zeros })
+  where
+    zeros : (b : ℕ) → b < length (replicate {A = ℕ} k 0) → get_or {A = ℕ} (replicate k 0) b 0 ≡ 0
+    zeros b l = get_or-replicate {A = ℕ} k b 0 0 (simp length-replicate at l)

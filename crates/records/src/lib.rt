@@ -5,12 +5,16 @@
 #![tactic(auto)]
 
 ghost use Rattle.std.specs.Prelude.{◌≡◌, ◌+◌, ◌*◌, ◌<◌, ◌≤◌, length, leb};
+ghost use Rattle.rules.specs.declared.Refused.TheVariants.{Broken as BrokenInput};
+ghost use Rattle.rules.specs.declared.Unwritten.TheVariants.{Broken as BrokenTable};
 ghost use Rattle.records.specs.Ranges.{TYPE_HIGH};
 ghost use Rattle.records.specs.Marks.{counted_from, lower_mark, lies, ReferredAsks, ReferredSays, FirstCellSays, FieldSays, LengthAsks, LengthSays, CellAsks, CellSays};
 ghost use Rattle.records.specs.Chains.{equals, ChainAsks, ChainSays};
 ghost use Rattle.records.specs.Rows.{RowAsks, RowSays, RecordAsks, RecordSays, BrokenAsks};
+ghost use Rattle.records.specs.Notes.{blank};
 ghost use Rattle.records.specs.Noting.{NoteAsks, Noted, BrokenSays};
 
+use rules::{Refused, Unwritten};
 use table::{AR, BT, CA, CE, EQ, HA, HO, KO, LA, NONE, Record, VA, read};
 
 // The marks of a type, of those that are base types, of a constant, a hole, a term.
@@ -46,11 +50,47 @@ const TERMS_HIGH: u8 = LIST_OF_TERMS + MOST_CELLS;
 // A record that is referred to has this much more.
 const REFERRED: u8 = 128;
 
-// What one pass over the records says: the lowest broken one, or how many equations there are.
+// The number of a record that breaks a rule.
 #[derive(Clone, Copy)]
-pub enum Pass {
-    Broken(u32),
-    Sound(usize),
+pub struct Broken(pub u32);
+
+impl From<Broken> for Refused {
+    ghost from_gives = { λ broken refused. refused ≡ BrokenInput broken.0 };
+
+    fn from(broken: Broken) -> Refused {
+        Refused::Broken(broken.0)
+    }
+}
+
+impl From<Broken> for Unwritten {
+    ghost from_gives = { λ broken unwritten. unwritten ≡ BrokenTable broken.0 };
+
+    fn from(broken: Broken) -> Unwritten {
+        Unwritten::Broken(broken.0)
+    }
+}
+
+// What one pass over at most N records writes down: the records' marks, the chains of types, from `last` on and by `before`, and the equations.
+#[derive(Drop)]
+pub struct Notes<const N: usize> {
+    pub marks: [u8; N],
+    pub last: [u16; N],
+    pub before: [u16; N],
+    pub equations: [u16; N],
+}
+
+impl<const N: usize> Notes<N> {
+    // Nothing is written down.
+    pub fn blank() -> Self
+        ensures { result ≡ blank N }
+    {
+        Notes {
+            marks: [0; N],
+            last: [0; N],
+            before: [0; N],
+            equations: [0; N],
+        }
+    }
 }
 
 // What a field can hold: the kinds of the records section's table.
@@ -70,16 +110,13 @@ enum Field {
     Rest,
 }
 
-// Two types of one chain, so with equal b, are equal.
+// Two types of one chain, so with equal b, are equal: a derived `==` would compare b and c again.
 fn equal(table: &[u32], j: u32, x: Record) -> bool
     requires { 4 * j + 3 < length table.now }
     ensures { result ≡ equals table.now j x }
 {
     let y = read(table, j);
-    if y.tag != x.tag {
-        return false;
-    }
-    y.a == x.a
+    y.tag == x.tag && y.a == x.a
 }
 
 // Record r, a type, joins its chain if no earlier type record equals it; true if so. Equal types have equal b, so the types with this b are compared,
@@ -104,17 +141,12 @@ fn join_chain(table: &[u32], last: &mut [u16], before: &mut [u16], r: u32) -> bo
     true
 }
 
-// The mark of a lower record, or 0.
+// The mark of a lower record, or 0, which is no kind's mark, so that one test of a range judges a field.
 fn lower_mark(marks: &[u8], r: u32, x: u32) -> u8
     requires { r ≤ length marks.now }
     ensures { result ≡ lower_mark marks.now r x }
 {
-    if x < r {
-        let at = x as usize;
-        marks[at]
-    } else {
-        0
-    }
+    if x < r { marks[x as usize] } else { 0 }
 }
 
 // The mark of a lower record is from low to high.
@@ -123,7 +155,7 @@ fn lies(marks: &[u8], r: u32, low: u8, high: u8, x: u32) -> bool
     ensures { result ≡ lies marks.now r low high x }
 {
     let m = lower_mark(marks, r, x);
-    if m < low { false } else { m <= high }
+    low <= m && m <= high
 }
 
 // Marks record x as referred to if it is lower and its mark is from low to high, so that nothing refers to it yet; true if so.
@@ -132,14 +164,10 @@ fn mark_referred(marks: &mut [u8], r: u32, low: u8, high: u8, x: u32) -> bool
     ensures { ReferredSays marks.old marks.new r low high x result }
 {
     let m = lower_mark(marks, r, x);
-    if m < low {
+    if m < low || high < m {
         return false;
     }
-    if high < m {
-        return false;
-    }
-    let at = x as usize;
-    marks[at] = m + REFERRED;
+    marks[x as usize] = m + REFERRED;
     true
 }
 
@@ -191,8 +219,7 @@ fn mark_row(table: &[u32], marks: &mut [u8], r: u32, a: Field, b: Field, c: Fiel
     if !mark_field(marks, r, c, x.c) {
         return false;
     }
-    let at = r as usize;
-    marks[at] = x.tag as u8;
+    marks[r as usize] = x.tag as u8;
     true
 }
 
@@ -218,14 +245,11 @@ fn mark_length(marks: &mut [u8], r: u32, start: u8, rest: u32, mark: u8) -> bool
         marks[at] = start + 1;
         return true;
     }
-    if mark <= start {
+    if mark <= start || start + MOST_CELLS <= mark {
         return false;
     }
-    if mark < start + MOST_CELLS {
-        marks[at] = mark + 1;
-        return true;
-    }
-    false
+    marks[at] = mark + 1;
+    true
 }
 
 // Marks what a cell refers to, and the cell by its length; true if its fields are as the table says, and its list is as it must be.
@@ -249,7 +273,9 @@ fn mark_cell(table: &[u32], marks: &mut [u8], r: u32) -> bool
 }
 
 // Marks a record and what it refers to; true if it keeps the rules. The arms are the records section's table; the row of a cell stands in
-// mark_cell, and an unknown tag has no row.
+// mark_cell, and an unknown tag has no row. The arrays come one by one, as the laws of marks and of chains speak of them. It is inlined into the
+// pass at each N ("equal rigid trees" large: 1.01, with a call 1.46).
+#[inline(always)]
 fn mark_record(
     table: &[u32],
     marks: &mut [u8],
@@ -279,7 +305,7 @@ fn mark_record(
     }
 }
 
-// Record r is noted if it has this tag; how many are noted then.
+// Record r is noted if it has this tag; how many are noted then: the notes are a slice lent by the caller, and a slice can not grow.
 pub fn note(table: &[u32], notes: &mut [u16], count: usize, r: u32, tag: u32) -> usize
     requires { NoteAsks tag table.now notes.old count r }
     ensures { Noted tag table.now notes.new result (r + 1) }
@@ -292,26 +318,27 @@ pub fn note(table: &[u32], notes: &mut [u16], count: usize, r: u32, tag: u32) ->
     count + 1
 }
 
-// The lowest of the first n records that breaks a rule, with blank marks for each of them; otherwise the equations are noted.
-pub fn broken(
+// The lowest of the first n records that breaks a rule, with blank notes; otherwise how many equations there are, and they are noted.
+pub fn find_broken<const N: usize>(
     table: &[u32],
-    marks: &mut [u8],
-    last: &mut [u16],
-    before: &mut [u16],
-    equations: &mut [u16],
+    notes: &mut Notes<N>,
     n: u32,
-) -> Pass
-    requires { BrokenAsks table.now marks.old last.old before.old equations.old n }
-    ensures { BrokenSays table.now equations.new n result }
+) -> Result<usize, Broken>
+    requires { BrokenAsks table.now notes.old n }
+    ensures { BrokenSays table.now notes.new.equations n result }
 {
-    let mut r = 0;
     let mut count = 0;
-    while r < n {
-        if !mark_record(table, marks, last, before, r) {
-            return Pass::Broken(r);
+    for r in 0..n {
+        if !mark_record(
+            table,
+            &mut notes.marks,
+            &mut notes.last,
+            &mut notes.before,
+            r,
+        ) {
+            return Err(Broken(r));
         }
-        count = note(table, equations, count, r, EQ);
-        r += 1;
+        count = note(table, &mut notes.equations, count, r, EQ);
     }
-    Pass::Sound(count)
+    Ok(count)
 }

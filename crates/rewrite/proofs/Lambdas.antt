@@ -1,45 +1,48 @@
 -- Lambdas are written one by one after a body.
-use Prim.Native.Nat.{ℕ, ◌-◌, ◌*◌, ◌≤◌}
-use mathlib.Core.Path.{◌≡◌, refl, ◌∙◌}
+use Rattle.std.specs.Prelude.{Ok, Err}
+use Prim.Native.Nat.{ℕ, ◌+◌, ◌-◌, ◌*◌, ◌<◌, ◌≤◌}
+use mathlib.Core.Path.{◌≡◌, ◌∙◌}
 use mathlib.Core.List.{List}
 use native.Mathlib.Omega.{arith}
 use lib.ListN.{length}
-use Rattle.store.specs.declared.Walked.{Walked}
+use Rattle.rules.specs.declared.Failure.{Failure}
+use Rattle.store.specs.declared.Written.{Written}
 use Rattle.rules.specs.Words.{LA}
-use Rattle.store.specs.Said.{Since, Then, shown, under}
+use Rattle.rules.specs.Store.{push, ◌>>=◌}
+use Rattle.store.specs.Said.{Answer, Does, shown}
+use Rattle.store.specs.SaidLaws.{since_root, since_failed}
 use Rattle.rewrite.specs.Lambdas.{lambdas, Under}
-use Rattle.rewrite.specs.LambdasLaws.{lambdas_none, lambdas-one}
+use Rattle.rewrite.specs.LambdasLaws.{lambdas_none, lambdas-one, lambdas_fails}
 
--- with `left` lambdas to write
-pub record Turn (n R k : ℕ) (ws₀ : List ℕ) (w₀ : Walked) (ws : List ℕ) (w : Walked) (left : ℕ) : Type 0 where
-  pub same : length ws ≡ length ws₀
+-- after i lambdas
+pub record Turn (n R k : ℕ) (ws₀ : List ℕ) (w₀ : Written) (ws : List ℕ) (w : Written) (i : ℕ) : Type 0 where
   pub room : 4 * R ≤ length ws
-  pub grown : Since n w
-  pub leads : (ss : List ℕ) → lambdas R k (shown ws₀ ss w₀) ≡ lambdas R left (shown ws ss w)
+  pub since : n ≤ w.used
+  pub leads : (ss : List ℕ) → lambdas R k (shown ws₀ ss (Ok w₀)) ≡ lambdas R (k - i) (shown ws ss (Ok w))
 
-module _ (n R k : ℕ) (ws₀ : List ℕ) (w₀ : Walked) where
-  pub turn_first : (4 * R ≤ length ws₀) × Since n w₀ → Turn n R k ws₀ w₀ ws₀ w₀ k
-  turn_first h = record { same = refl; room = h.0; grown = h.1; leads = λ ss. refl }
+module _ (n R k : ℕ) (ws₀ : List ℕ) (w₀ : Written) where
+  pub turn_first : (4 * R ≤ length ws₀) × (n ≤ w₀.used) → Turn n R k ws₀ w₀ ws₀ w₀ 0
+  turn_first h = let e : k - 0 ≡ k = omega arith in record { room = h.0; since = h.1; leads = λ ss. rw e }
 
-  module _ (ws : List ℕ) (w : Walked) (left : ℕ) (h : Turn n R k ws₀ w₀ ws w left) where
+  module _ (ws : List ℕ) (w : Written) (i : ℕ) (h : Turn n R k ws₀ w₀ ws w i) where
     pub turn_room : 4 * R ≤ length ws
     turn_room = h.room
 
-    pub turn_since : Since n w
-    turn_since = h.grown
+    pub turn_since : n ≤ w.used
+    turn_since = h.since
 
-    pub turn_same : length ws ≡ length ws₀
-    turn_same = h.same
+    pub turn_ends : k ≤ i → Under n R k ws₀ w₀ ws (Ok w)
+    turn_ends g = record { run = λ ss. h.leads ss ∙ lambdas_none R (k - i) (shown ws ss (Ok w)) (omega arith); grown = since_root _ _ h.since }
 
-    pub turn_ends : left ≡ 0 → Under n R k ws₀ w₀ ws w
-    turn_ends e = record { run = λ ss. h.leads ss ∙ lambdas_none R left (shown ws ss w) e; grown = h.grown }
+    module _ (lt : i < k) (ws₁ : List ℕ) (x : Answer) (p : Does n (push R LA w.root 0) ws w.used ws₁ x) where
+      one : (ss : List ℕ) → lambdas R k (shown ws₀ ss (Ok w₀)) ≡ lambdas R (k - (i + 1)) (shown ws₁ ss x)
+      unfolding ◌>>=◌
+      one ss = h.leads ss ∙ lambdas-one R (k - i) (k - (i + 1)) (shown ws ss (Ok w)) (omega arith) ∙ rw (p.run ss)
 
-    pub turn_next : (ws₁ : List ℕ) (x : Walked) → (left ≡ 0 → ⊥) → length ws₁ ≡ length ws → Then n (under R LA 0) ws w ws₁ x → Turn n R k ws₀ w₀ ws₁ x (left - 1)
-    turn_next ws₁ x ne e p =
-        let q = h.room in
-        record {
-          same = e ∙ h.same;
-          room = omega arith;
-          grown = p.grown;
-          leads = λ ss. h.leads ss ∙ lambdas-one R left (left - 1) (shown ws ss w) (omega arith) ∙ rw (p.run ss);
-        }
+      pub turn_stops : (e : Failure) (y : Answer) → x ≡ Err e → y ≡ Err e → Under n R k ws₀ w₀ ws₁ y
+      turn_stops e y q o = rw o (record { run = λ ss. one ss ∙ rw q (lambdas_fails R (k - (i + 1)) ws₁ ss e); grown = since_failed _ _ })
+
+      pub turn_next : (v : Written) → x ≡ Ok v → length ws₁ ≡ length ws → Turn n R k ws₀ w₀ ws₁ v (i + 1)
+      turn_next v q e =
+          let r = h.room in
+          record { room = omega arith; since = p.grown.since v q; leads = λ ss. one ss ∙ rw q }

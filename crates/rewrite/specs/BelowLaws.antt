@@ -1,15 +1,16 @@
 -- What a loop that takes a term's lambdas off keeps, lambda by lambda, whatever is written below them.
-use Rattle.std.specs.Prelude.{ℕ, ◌+◌, ◌-◌, ◌*◌, ◌<◌, ◌≤◌, ◌≡◌, List, length}
+use Rattle.std.specs.Prelude.{ℕ, ◌+◌, ◌-◌, ◌*◌, ◌<◌, ◌≤◌, ◌≡◌, List, Ok, length}
 use Rattle.std.proofs.Common.{◌∙◌, arith, Fits}
 use Rattle.std.specs.Int.{w32}
 use Rattle.rules.specs.Words.{tag, LA}
-use Rattle.rules.specs.Store.{Out, ◌>>=◌}
-use Rattle.store.specs.declared.Walked.{Walked}
+use Rattle.rules.specs.Store.{Out, fails, ◌>>=◌}
+use Rattle.rules.specs.declared.Failure.{Failure}
+use Rattle.store.specs.declared.Written.{Written}
 use Rattle.table.specs.declared.Record.{Record}
 use Rattle.table.specs.Reading.{IsRecord}
-use Rattle.store.specs.Said.{shown, under}
+use Rattle.store.specs.Said.{Answer, shown, under}
 use Rattle.rewrite.specs.Lambdas.{lambdas, Under}
-use Rattle.rewrite.specs.LambdasLaws.{lambdas_none, lambdas-one}
+use Rattle.rewrite.specs.LambdasLaws.{lambdas_none, lambdas-one, lambdas_fails}
 
 -- terms of the words ws are written to R records of os: what a term that is ready (depth, record) says of itself, and of its body
 -- if it is a lambda, where `gives` says what is written (solutions, depth, record, outcome)
@@ -78,5 +79,8 @@ module _ {ready : ℕ → ℕ → Type 0} {gives : List ℕ → ℕ → ℕ → 
     pub below_then : (os₁ : List ℕ) → length os₁ ≡ length os → 4 * R ≤ length os₁
     below_then os₁ e = let c = h.opens.room d r h.on in omega arith
 
-    pub below_gives : (n : ℕ) (ss ss₁ os₁ : List ℕ) (x : Walked) (os₂ : List ℕ) (y : Walked) → gives ss d r (shown os₁ ss₁ x) → Under n R (d - d₀) os₁ x os₂ y → gives ss d₀ r₀ (shown os₂ ss₁ y)
-    below_gives n ss ss₁ os₁ x os₂ y p q = rw (← q.run ss₁) (h.leads ss (shown os₁ ss₁ x) p)
+    pub below_gives : (n : ℕ) (ss ss₁ os₁ : List ℕ) (x : Written) (os₂ : List ℕ) (y : Answer) → gives ss d r (shown os₁ ss₁ (Ok x)) → Under n R (d - d₀) os₁ x os₂ y → gives ss d₀ r₀ (shown os₂ ss₁ y)
+    below_gives n ss ss₁ os₁ x os₂ y p q = rw (← q.run ss₁) (h.leads ss (shown os₁ ss₁ (Ok x)) p)
+
+    pub below_fails : (ss ss₁ os₁ : List ℕ) (e : Failure) → gives ss d r (fails os₁ ss₁ e) → gives ss d₀ r₀ (fails os₁ ss₁ e)
+    below_fails ss ss₁ os₁ e p = rw (← lambdas_fails R (d - d₀) os₁ ss₁ e) (h.leads ss (fails os₁ ss₁ e) p)

@@ -1,9 +1,8 @@
 -- What a loop that writes the arguments of a list keeps, argument by argument, whatever writes them.
-use Rattle.std.specs.Prelude.{ℕ, suc, ◌+◌, ◌*◌, ◌<◌, ◌≤◌, ◌≡◌, refl, List, [], ◌∷◌, ◌++◌, length, set, take}
-use Rattle.std.proofs.Common.{sym, ap, ◌∙◌, arith, length-set, take-suc-set}
+use Rattle.std.specs.Prelude.{ℕ, suc, ◌+◌, ◌*◌, ◌<◌, ◌≤◌, ◌≡◌, refl, List, [], ◌∷◌, ◌++◌, length, Ok, Err}
+use Rattle.std.proofs.Common.{ap, ◌∙◌, arith, length-append}
 use Rattle.rules.specs.declared.Failure.{Failure}
-use Rattle.store.specs.declared.Walked.{Walked}
-use Rattle.store.specs.declared.Walked.TheVariants.{Root, Failed}
+use Rattle.store.specs.declared.Written.{Written}
 use Rattle.table.specs.declared.Record.{Record}
 use Rattle.table.specs.Reading.{IsRecord}
 use Rattle.rules.specs.Words.{NONE, elements}
@@ -12,9 +11,8 @@ use Rattle.rules.specs.Map.{Map}
 use Rattle.rules.specs.Rewrite.{Writer, write_all}
 use Rattle.laws.specs.Lists.{size, elements_none}
 use Rattle.invariants.specs.Rise.{reach}
-use Rattle.store.specs.Said.{store, shown, Does}
+use Rattle.store.specs.Said.{Answer, store, shown, Does}
 use Rattle.store.specs.SaidLaws.{since_failed}
-use Rattle.store.specs.Cells.{Celling}
 use Rattle.store.specs.EachLaws.{write_rest, writes_all, rest_end, rest_stops, rest_goes}
 use Rattle.rewrite.specs.TermsLaws.{IsCell}
 use Rattle.rewrite.specs.Writes.{WritesTerm, WritesList}
@@ -33,47 +31,39 @@ module _ (write : ℕ → Writer) (reads : Store → List ℕ) (term list : Stor
         → (s₁ : Store) (y : ℕ) → write (suc (reach T F (suc w.a))) m d w.a s ≡ goes s₁ y → length s₁.words ≡ length s.words
         → list s₁ w.b × (elements (reads s₁) w.b ≡ elements (reads s) w.b)
 
-  -- after k arguments: what they were written as, and what is left
-  pub record Turn (ws₀ ss₀ : List ℕ) (used₀ l₀ : ℕ) (ws ss noted : List ℕ) (k used l : ℕ) : Type 0 where
+  -- after some arguments: what they were written as, and what is left
+  pub record Turn (ws₀ ss₀ : List ℕ) (used₀ l₀ : ℕ) (ws ss noted : List ℕ) (used l : ℕ) : Type 0 where
     pub splits : Splits
     pub same : length ws ≡ length ws₀
     pub held : length ss ≡ length ss₀
-    pub array : length noted ≡ 16
-    pub few : k + length (elements (reads (store ws ss used)) l) ≤ 16
+    pub few : length noted + length (elements (reads (store ws ss used)) l) ≤ 16
     pub less : size l ≤ size l₀
     pub ready : list (store ws ss used) l
     pub leads : (f : ℕ) → reach T F (size l₀) ≤ f → write_all (write f) R m d (elements (reads (store ws₀ ss₀ used₀)) l₀) (store ws₀ ss₀ used₀)
-        ≡ write_rest (write f) R m d (take k noted) (elements (reads (store ws ss used)) l) (store ws ss used)
+        ≡ write_rest (write f) R m d noted (elements (reads (store ws ss used)) l) (store ws ss used)
 
 module _ {write : ℕ → Writer} {reads : Store → List ℕ} {term list : Store → ℕ → Type 0} {R T n F : ℕ} {m : Map} {d : ℕ} {ws₀ ss₀ : List ℕ} {used₀ l₀ : ℕ} where
-  pub turn_first : Splits write reads term list R T n F m d → (noted : List ℕ) → length noted ≡ 16 → list (store ws₀ ss₀ used₀) l₀
-      → Turn write reads term list R T n F m d ws₀ ss₀ used₀ l₀ ws₀ ss₀ noted 0 used₀ l₀
+  pub turn_first : Splits write reads term list R T n F m d → (noted : List ℕ) → noted ≡ [] → list (store ws₀ ss₀ used₀) l₀ → Turn write reads term list R T n F m d ws₀ ss₀ used₀ l₀ ws₀ ss₀ noted used₀ l₀
   turn_first p noted z h =
       let c = p.few (store ws₀ ss₀ used₀) l₀ h in
-      record { splits = p; same = refl; held = refl; array = z; few = omega arith; less = omega arith; ready = h; leads = λ f hf. writes_all (write f) R m d (elements (reads (store ws₀ ss₀ used₀)) l₀) (store ws₀ ss₀ used₀) }
+      rw z (record { splits = p; same = refl; held = refl; few = omega arith; less = omega arith; ready = h; leads = λ f hf. writes_all (write f) R m d (elements (reads (store ws₀ ss₀ used₀)) l₀) (store ws₀ ss₀ used₀) })
 
-  module _ {ws ss noted : List ℕ} {k used l : ℕ} (h : Turn write reads term list R T n F m d ws₀ ss₀ used₀ l₀ ws ss noted k used l) where
+  module _ {ws ss noted : List ℕ} {used l : ℕ} (h : Turn write reads term list R T n F m d ws₀ ss₀ used₀ l₀ ws ss noted used l) where
     abbrev s : Store
     s = store ws ss used
 
     pub turn_kept : (ws₁ : List ℕ) → length ws₁ ≡ length ws → length ws₁ ≡ length ws₀
     turn_kept ws₁ e = e ∙ h.same
 
-    pub turn_held : (ss₁ : List ℕ) → length ss₁ ≡ length ss → length ss₁ ≡ length ss₀
-    turn_held ss₁ e = e ∙ h.held
-
     pub turn_holds : length ss ≡ length ss₀
     turn_holds = h.held
 
-    pub turn_array : 16 ≡ length noted
-    turn_array = sym h.array
-
     -- nothing is left
-    pub turn_cells : Celling ws n used R noted k
-    turn_cells = let f = h.few in let z = h.array in record { room = h.splits.room s l h.ready; since = h.splits.since s l h.ready; few = omega arith }
+    pub turn_asks : (4 * R ≤ length ws) × (n ≤ used)
+    turn_asks = (h.splits.room s l h.ready, h.splits.since s l h.ready)
 
-    pub turn_ends : (ws₁ : List ℕ) (x : Walked) → l ≡ NONE → Does n (push_cells R (take k noted)) ws used ws₁ x → WritesList write reads R T n F m d l₀ (store ws₀ ss₀ used₀) ws₁ ss x
-    turn_ends ws₁ x e p = record { run = λ f hf. h.leads f hf ∙ rw (elements_none (reads s) l e) (rest_end (write f) R m d (take k noted) s ∙ p.run ss); grown = p.grown }
+    pub turn_ends : (ys ws₁ : List ℕ) (x : Answer) → l ≡ NONE → ys ≡ noted → Does n (push_cells R ys) ws used ws₁ x → WritesList write reads R T n F m d l₀ (store ws₀ ss₀ used₀) ws₁ ss x
+    turn_ends ys ws₁ x e q p = record { run = λ f hf. h.leads f hf ∙ rw (elements_none (reads s) l e, ← q) (rest_end (write f) R m d ys s ∙ p.run ss); grown = p.grown }
 
     -- a cell is left
     module _ (ne : l ≡ NONE → ⊥) where
@@ -84,10 +74,10 @@ module _ {write : ℕ → Writer} {reads : Store → List ℕ} {term list : Stor
         cell : IsCell (reads s) l w
         cell = h.splits.cell s l h.ready ne w e
 
-        few : (k + 1) + length (elements (reads s) w.b) ≤ 16
-        few = let c : k + length (w.a ∷ elements (reads s) w.b) ≤ 16 = rw cell.list at h.few in omega arith
+        few : (length noted + 1) + length (elements (reads s) w.b) ≤ 16
+        few = let c : length noted + length (w.a ∷ elements (reads s) w.b) ≤ 16 = rw cell.list at h.few in omega arith
 
-        pub room_left : k < 16
+        pub room_left : length noted < 16
         room_left = let f = few in omega arith
 
         pub turn_lower : suc w.a < size l₀
@@ -99,35 +89,32 @@ module _ {write : ℕ → Writer} {reads : Store → List ℕ} {term list : Stor
         pub turn_head : term s w.a
         turn_head = h.splits.first s l h.ready ne w e cell
 
-        module _ (ws₁ ss₁ : List ℕ) (x : Walked) (p : WritesTerm write T n F m d w.a s ws₁ ss₁ x) where
+        module _ (ws₁ ss₁ : List ℕ) (x : Answer) (p : WritesTerm write T n F m d w.a s ws₁ ss₁ x) where
           gives : (f : ℕ) → reach T F (size l₀) ≤ f → write f m d w.a s ≡ shown ws₁ ss₁ x
           gives f hf = let a = turn_lower in p.run f (omega arith)
 
-          pub turn_stops : (e₁ : Failure) → x ≡ Failed e₁ → WritesList write reads R T n F m d l₀ (store ws₀ ss₀ used₀) ws₁ ss₁ (Failed e₁)
-          turn_stops e₁ q =
-              record {
-                run = λ f hf. h.leads f hf ∙ rw cell.list (rest_stops (write f) R m d (take k noted) w.a (elements (reads s) w.b) s ws₁ ss₁ e₁ (gives f hf ∙ ap (shown ws₁ ss₁) q));
+          pub turn_stops : (e₁ : Failure) (y : Answer) → x ≡ Err e₁ → y ≡ Err e₁ → WritesList write reads R T n F m d l₀ (store ws₀ ss₀ used₀) ws₁ ss₁ y
+          turn_stops e₁ y q o =
+              rw o (record {
+                run = λ f hf. h.leads f hf ∙ rw cell.list (rest_stops (write f) R m d noted w.a (elements (reads s) w.b) s ws₁ ss₁ e₁ (gives f hf ∙ ap (shown ws₁ ss₁) q));
                 grown = since_failed _ _;
-              }
+              })
 
-          pub turn_next : (y u₁ : ℕ) → x ≡ Root y u₁ → length ws₁ ≡ length ws → length ss₁ ≡ length ss
-              → Turn write reads term list R T n F m d ws₀ ss₀ used₀ l₀ ws₁ ss₁ (set noted k y) (k + 1) u₁ w.b
-          turn_next y u₁ q lw ls =
+          pub turn_next : (v : Written) (noted₁ : List ℕ) → x ≡ Ok v → length ws₁ ≡ length ws → length ss₁ ≡ length ss → noted₁ ≡ noted ++ (v.root ∷ [])
+              → Turn write reads term list R T n F m d ws₀ ss₀ used₀ l₀ ws₁ ss₁ noted₁ v.used w.b
+          turn_next v noted₁ q lw ls t =
               let b = cell.lower.1 in
               let c = h.less in
-              let nt = h.array in
-              let rl = room_left in
-              let ke : k + 1 ≡ suc k = omega arith in
-              let tk : take (k + 1) (set noted k y) ≡ take k noted ++ (y ∷ []) = rw ke (take-suc-set noted k y (omega arith)) in
-              let z = h.splits.rest s l h.ready ne w e cell (store ws₁ ss₁ u₁) y (p.run (suc (reach T F (suc w.a))) (omega arith) ∙ ap (shown ws₁ ss₁) q) lw in
+              let one : length noted₁ ≡ length noted + 1 = rw t (length-append noted (v.root ∷ [])) in
+              let f = few in
+              let z = h.splits.rest s l h.ready ne w e cell (store ws₁ ss₁ v.used) v.root (p.run (suc (reach T F (suc w.a))) (omega arith) ∙ ap (shown ws₁ ss₁) q) lw in
               record {
                 splits = h.splits;
                 same = lw ∙ h.same;
                 held = ls ∙ h.held;
-                array = simp length-set nt;
-                few = rw z.1 few;
+                few = rw (z.1, one) f;
                 less = omega arith;
                 ready = z.0;
-                leads = λ f hf. h.leads f hf ∙ rw (cell.list, tk, z.1)
-                    (rest_goes (write f) R m d (take k noted) w.a (elements (reads s) w.b) s (store ws₁ ss₁ u₁) y (gives f hf ∙ ap (shown ws₁ ss₁) q));
+                leads = λ f hf. h.leads f hf ∙ rw (cell.list, t, z.1)
+                    (rest_goes (write f) R m d noted w.a (elements (reads s) w.b) s (store ws₁ ss₁ v.used) v.root (gives f hf ∙ ap (shown ws₁ ss₁) q));
               }

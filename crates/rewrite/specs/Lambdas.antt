@@ -1,9 +1,9 @@
 -- Lambdas written after a body, the innermost first.
-use Rattle.std.specs.Prelude.{ℕ, zero, suc, ◌≡◌, List}
-use Rattle.store.specs.declared.Walked.{Walked}
+use Rattle.std.specs.Prelude.{ℕ, zero, suc, ◌≡◌, List, Ok}
+use Rattle.store.specs.declared.Written.{Written}
 use Rattle.rules.specs.Store.{Out, ◌>>=◌}
 use Rattle.rules.specs.Words.{LA}
-use Rattle.store.specs.Said.{Since, shown, under}
+use Rattle.store.specs.Said.{Answer, Since, shown, under}
 
 -- k lambdas over what was written
 unfoldable pub lambdas : ℕ → ℕ → Out ℕ → Out ℕ
@@ -11,6 +11,6 @@ lambdas R zero o = o
 lambdas R (suc k) o = lambdas R k (o >>= under R LA 0)
 
 -- words and answer, whatever the solutions are
-pub record Under (n R k : ℕ) (ws : List ℕ) (w : Walked) (ws₁ : List ℕ) (x : Walked) : Type 0 where
-  pub run : (ss : List ℕ) → lambdas R k (shown ws ss w) ≡ shown ws₁ ss x
+pub record Under (n R k : ℕ) (ws : List ℕ) (w : Written) (ws₁ : List ℕ) (x : Answer) : Type 0 where
+  pub run : (ss : List ℕ) → lambdas R k (shown ws ss (Ok w)) ≡ shown ws₁ ss x
   pub grown : Since n x

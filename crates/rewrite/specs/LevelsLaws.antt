@@ -1,7 +1,6 @@
 -- One level of a term written anew, by the record read, whatever words it is written to.
-use Rattle.std.specs.Prelude.{ℕ, zero, suc, ◌+◌, ◌<◌, ◌≤◌, ◌≡◌, refl, List}
+use Rattle.std.specs.Prelude.{ℕ, zero, suc, ◌+◌, ◌<◌, ◌≤◌, ◌≡◌, refl, List, Some, None}
 use Rattle.std.proofs.Common.{sym, ap, ◌∙◌, arith}
-use Rattle.rules.specs.declared.Found.TheVariants.{At, Nowhere}
 use Rattle.rules.specs.declared.Failure.TheVariants.{Escape}
 use Rattle.table.specs.declared.Record.{Record}
 use Rattle.table.specs.Reading.{IsRecord}
@@ -21,10 +20,10 @@ fuel (suc k) s h = (k, refl, omega arith)
 -- the number of a rigid head: a constant's own, a variable's place
 pub data Headed (m : Map) (d : ℕ) (w : Record) (v : ℕ) : Type 0 where
   of_constant : w.tag ≡ CA → w.a ≡ v → Headed m d w v
-  of_variable : w.tag ≡ VA → place_of m d w.a ≡ At v → Headed m d w v
+  of_variable : w.tag ≡ VA → place_of m d w.a ≡ Some v → Headed m d w v
 
-pub head-named : (m : Map) (d : ℕ) (w : Record) (v x : ℕ) → w.tag ≡ VA → place_of m d w.a ≡ At v → x ≡ v → Headed m d w x
-head-named m d w v x t p q = of_variable t (p ∙ ap At (sym q))
+pub head-named : (m : Map) (d : ℕ) (w : Record) (v x : ℕ) → w.tag ≡ VA → place_of m d w.a ≡ Some v → x ≡ v → Headed m d w x
+head-named m d w v x t p q = of_variable t (p ∙ ap Some (sym q))
 
 module _ (on_hole write : Writer) (R : ℕ) (ws : List ℕ) (m : Map) (d r : ℕ) (s : Store) (w : Record) (is : IsRecord ws r w) where
   pub level_lambda : w.tag ≡ LA → write_term on_hole write R ws m d r s ≡ (write m (d + 1) w.a s >>= under R LA 0)
@@ -35,7 +34,7 @@ module _ (on_hole write : Writer) (R : ℕ) (ws : List ℕ) (m : Map) (d r : ℕ
   unfolding write_term arguments
   level_rigid v (of_constant t e) = rw (form_7 ws r (sym is.tag_is ∙ t), write_term, ← e, is.a_is, is.b_is, t)
   level_rigid v (of_variable t e) =
-      let p : place_of m d (field_a ws r) ≡ At v = rw (← is.a_is) e in
+      let p : place_of m d (field_a ws r) ≡ Some v = rw (← is.a_is) e in
       rw (form_8 ws r (sym is.tag_is ∙ t), write_term, p, is.b_is, t)
 
   -- without arguments
@@ -43,10 +42,10 @@ module _ (on_hole write : Writer) (R : ℕ) (ws : List ℕ) (m : Map) (d r : ℕ
   unfolding write_all ◌>>=◌
   level_leaf v h e = level_rigid v h ∙ rw (elements_none ws w.b e)
 
-  pub level_escape : w.tag ≡ VA → place_of m d w.a ≡ Nowhere → write_term on_hole write R ws m d r s ≡ fail Escape s
+  pub level_escape : w.tag ≡ VA → place_of m d w.a ≡ None → write_term on_hole write R ws m d r s ≡ fail Escape s
   unfolding write_term
   level_escape t p =
-      let p₁ : place_of m d (field_a ws r) ≡ Nowhere = rw (← is.a_is) p in
+      let p₁ : place_of m d (field_a ws r) ≡ None = rw (← is.a_is) p in
       rw (form_8 ws r (sym is.tag_is ∙ t), write_term, p₁)
 
 pub level_hole : (on_hole write : Writer) (R : ℕ) (ws : List ℕ) (m : Map) (d r : ℕ) (s : Store) → tag ws r ≡ HA → write_term on_hole write R ws m d r s ≡ on_hole m d r s

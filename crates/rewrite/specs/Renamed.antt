@@ -1,6 +1,5 @@
 -- A variable that has a place, renamed.
-use Rattle.std.specs.Prelude.{ℕ, ◌≡◌, false}
-use Rattle.rules.specs.declared.Found.TheVariants.{At}
+use Rattle.std.specs.Prelude.{ℕ, ◌≡◌, false, Some}
 use Rattle.rules.specs.Map.{place_of}
 use Rattle.places.specs.declared.Map.{Map}
 use Rattle.places.specs.Maps.{map_of}
@@ -10,4 +9,4 @@ use Rattle.places.specs.Looking.{Looks}
 pub record Renaming (m : Map) (d v : ℕ) : Type 0 where
   pub looks : Looks false m d
   pub to : ℕ
-  pub has : place_of (map_of false m) d v ≡ At to
+  pub has : place_of (map_of false m) d v ≡ Some to

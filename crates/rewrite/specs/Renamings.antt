@@ -1,6 +1,5 @@
 -- The map that follows a hole's arguments, each of which has a place.
-use Rattle.std.specs.Prelude.{ℕ, ◌≡◌, List, false}
-use Rattle.rules.specs.declared.Found.TheVariants.{At}
+use Rattle.std.specs.Prelude.{ℕ, ◌≡◌, List, false, Some}
 use Rattle.rules.specs.Map.{place_of}
 use Rattle.invariants.specs.Floor.{All}
 use Rattle.places.specs.declared.Map.{Map}
@@ -10,7 +9,7 @@ use Rattle.places.specs.Lists.{Counts, vars_of}
 
 -- a variable has a place
 abbrev pub Has : Map → ℕ → ℕ → Type 0
-Has m d v = (to : ℕ) × (place_of (map_of false m) d v ≡ At to)
+Has m d v = (to : ℕ) × (place_of (map_of false m) d v ≡ Some to)
 
 -- what renaming arguments asks: each has a place
 pub record Renamings (ws : List ℕ) (m : Map) (d l : ℕ) : Type 0 where

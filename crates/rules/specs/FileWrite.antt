@@ -1,6 +1,5 @@
 -- Writing a file: records of a table become records of 14 bytes, the two-byte mark, then a, b, c little-endian.
-use Rattle.std.specs.Prelude.{ℕ, zero, suc, ◌+◌, ◌*◌, ◌/◌, ◌%◌, true, false, List, [], ◌∷◌, ◌++◌, length, get_or, drop, ltb}
-use Rattle.rules.specs.declared.Found.TheVariants.{At, Nowhere}
+use Rattle.std.specs.Prelude.{ℕ, zero, suc, ◌+◌, ◌*◌, ◌/◌, ◌%◌, true, false, List, [], ◌∷◌, ◌++◌, length, get_or, drop, ltb, Some, None}
 use Rattle.rules.specs.declared.Unwritten.TheVariants.{TooMany, Broken, ShortFile}
 use Rattle.rules.specs.declared.Reply.{Reply}
 use Rattle.rules.specs.Lists.{either}
@@ -37,8 +36,8 @@ write ws n bs =
     elim (either (ltb (records ws) n) (ltb 2048 n)) [
       | true ↦ record { file = bs; said = unwriting TooMany }
       | false ↦ elim (broken ws n) [
-        | At r ↦ record { file = bs; said = unwriting (Broken r) }
-        | Nowhere ↦ elim (ltb (length bs) (14 * n)) [
+        | Some r ↦ record { file = bs; said = unwriting (Broken r) }
+        | None ↦ elim (ltb (length bs) (14 * n)) [
           | true ↦ record { file = bs; said = unwriting ShortFile }
           | false ↦ record { file = file_bytes ws 0 n ++ drop (14 * n) bs; said = reply 0 0 n }
         ]

@@ -1,7 +1,5 @@
 -- Tests and lists, as far as the rules need them.
-use Rattle.std.specs.Prelude.{ℕ, zero, suc, ◌+◌, min, Bool, true, false, not, ◌&&◌, ◌||◌, List, [], ◌∷◌, eqb}
-use Rattle.rules.specs.declared.Found.{Found}
-use Rattle.rules.specs.declared.Found.TheVariants.{At, Nowhere}
+use Rattle.std.specs.Prelude.{ℕ, zero, suc, ◌+◌, min, Bool, true, false, not, ◌&&◌, ◌||◌, List, [], ◌∷◌, eqb, Option, Some, None}
 
 -- the fuel of every recursion that follows records, 2 to the 64th: more calls one inside another than a table of at most 4,096 records
 -- can ask for. A definition that carries fuel says at its head what the fuel bounds
@@ -62,10 +60,10 @@ unfoldable pub below : ℕ → List ℕ
 below n = from 0 n
 
 -- the first of k numbers from i on that passes
-unfoldable pub first : ℕ → (ℕ → Bool) → ℕ → Found
-first zero ok i = Nowhere
-first (suc k) ok i = elim (ok i) [ true ↦ At i | false ↦ first k ok (i + 1) ]
+unfoldable pub first : ℕ → (ℕ → Bool) → ℕ → Option ℕ
+first zero ok i = None
+first (suc k) ok i = elim (ok i) [ true ↦ Some i | false ↦ first k ok (i + 1) ]
 
 -- the lowest number below n that passes
-unfoldable pub lowest : ℕ → (ℕ → Bool) → Found
+unfoldable pub lowest : ℕ → (ℕ → Bool) → Option ℕ
 lowest n ok = first n ok 0

@@ -1,6 +1,5 @@
 -- A term written anew with its variables renamed: what copying, walking and showing share, and copying itself.
-use Rattle.std.specs.Prelude.{ℕ, zero, suc, ◌+◌, true, false, List, [], ◌∷◌}
-use Rattle.rules.specs.declared.Found.TheVariants.{At, Nowhere}
+use Rattle.std.specs.Prelude.{ℕ, zero, suc, ◌+◌, true, false, List, [], ◌∷◌, Some, None}
 use Rattle.rules.specs.declared.Failure.TheVariants.{Escape}
 use Rattle.rules.specs.Lists.{both, enough}
 use Rattle.rules.specs.Words.{NONE, field_a, CE, LA, CA, VA, HA, has, lambda, constant, variable, hole, form, arguments, variables}
@@ -30,8 +29,8 @@ write_term on_hole write R ws m d r s =
         (s₁, xs) ← write_all write R m d (arguments ws r) s
         push R CA (field_a ws r) xs s₁
       | variable ↦ elim (place_of m d (field_a ws r)) [
-        | Nowhere ↦ fail Escape s
-        | At v ↦ do
+        | None ↦ fail Escape s
+        | Some v ↦ do
           (s₁, xs) ← write_all write R m d (arguments ws r) s
           push R VA v xs s₁
       ]

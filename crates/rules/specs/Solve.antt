@@ -1,6 +1,5 @@
 -- Solving: the order of refusals, and what is left behind.
-use Rattle.std.specs.Prelude.{ℕ, ◌+◌, ◌*◌, ◌-◌, Bool, true, false, List, [], ◌++◌, length, take, drop, replicate, eqb, ltb}
-use Rattle.rules.specs.declared.Found.TheVariants.{At, Nowhere}
+use Rattle.std.specs.Prelude.{ℕ, ◌+◌, ◌*◌, ◌-◌, Bool, true, false, List, [], ◌++◌, length, take, drop, replicate, eqb, ltb, Some, None}
 use Rattle.rules.specs.declared.Refused.{Refused}
 use Rattle.rules.specs.declared.Refused.TheVariants.{NoRoom, Broken, NoHole, IllTyped, NoPattern}
 use Rattle.rules.specs.declared.Reply.{Reply}
@@ -24,12 +23,12 @@ refusal asked ws ss n =
     elim (either (ltb (records ws) n) (ltb (length ss) (records ws))) [
       | true ↦ refused NoRoom
       | false ↦ elim (broken ws n) [
-        | At r ↦ refused (Broken r)
-        | Nowhere ↦ elim asked [
+        | Some r ↦ refused (Broken r)
+        | None ↦ elim asked [
           | false ↦ refused NoHole
           | true ↦ elim (ill_typed ws n) [
-            | At r ↦ refused (IllTyped r)
-            | Nowhere ↦ elim (eqb (no_pattern ws n) NONE) [ false ↦ refused (NoPattern (no_pattern ws n)) | true ↦ admitted ]
+            | Some r ↦ refused (IllTyped r)
+            | None ↦ elim (eqb (no_pattern ws n) NONE) [ false ↦ refused (NoPattern (no_pattern ws n)) | true ↦ admitted ]
           ]
         ]
       ]

@@ -5,7 +5,6 @@ use mathlib.Core.List.{List}
 use mathlib.Core.Bool.{false}
 use native.Mathlib.Omega.{arith}
 use lib.ListN.{length}
-use Rattle.store.specs.declared.Walked.{Walked}
 use Rattle.table.specs.declared.Record.{Record}
 use Rattle.table.specs.Reading.{IsRecord}
 use Rattle.places.specs.declared.Map.{Map}
@@ -15,7 +14,7 @@ use Rattle.rules.specs.Map.{to_variables}
 use Rattle.rules.specs.Show.{answer}
 use Rattle.invariants.specs.Floor.{All}
 use Rattle.invariants.specs.Places.{variables_low}
-use Rattle.store.specs.Said.{store, shown}
+use Rattle.store.specs.Said.{Answer, store, shown}
 use Rattle.places.specs.Maps.{map_of}
 use Rattle.places.specs.Lists.{Counts}
 use Rattle.places.specs.Arguments.{Ordered}
@@ -55,7 +54,6 @@ module _ {O : ℕ} {ws ss os : List ℕ} {h : ℕ} (a : Answering O ws ss os h) 
             is = λ ne. let so = t.fine.sols h (omega arith) ne in let si = so.since in record { below = so.below; term = so.term; up = omega arith };
             on = record {
               room = a.room;
-              whole = o.whole;
               top = 16;
               low = rw is_order (variables_low 0 16 (from 0 (length (elements ws (field_a ws h)))) (from_low 0 (length (elements ws (field_a ws h))) 16 (omega arith)));
               fits = omega arith;
@@ -64,6 +62,6 @@ module _ {O : ℕ} {ws ss os : List ℕ} {h : ℕ} (a : Answering O ws ss os h) 
             known = rw is_order a.known;
           }
 
-      pub answered : (os₁ : List ℕ) (x : Walked) → ShowsHole O m ws ss os 0 1 h os₁ x → answer O ws h (store os ss 0) ≡ shown os₁ ss x
+      pub answered : (os₁ : List ℕ) (x : Answer) → ShowsHole O m ws ss os 0 1 h os₁ x → answer O ws h (store os ss 0) ≡ shown os₁ ss x
       unfolding answer
       answered os₁ x p = rw (← is_order) (p.run enough (omega arith))

@@ -3,13 +3,17 @@ use Prim.Native.Nat.{ℕ, ◌-◌}
 use mathlib.Core.List.{List}
 use mathlib.Core.Bool.{false}
 use native.Mathlib.Omega.{arith}
-use Rattle.store.specs.declared.Walked.{Walked}
+use Rattle.std.specs.Prelude.{◌≡◌, Ok, Err}
+use Rattle.rules.specs.declared.Failure.{Failure}
+use Rattle.store.specs.declared.Written.{Written}
+use Rattle.store.specs.Said.{Answer}
+use Rattle.store.specs.SaidLaws.{since_failed}
 use Rattle.table.specs.declared.Record.{Record}
 use Rattle.places.specs.declared.Map.{Map}
 use Rattle.places.specs.Maps.{map_of}
 use Rattle.rewrite.specs.TermsLaws.{at_less}
 use Rattle.rewrite.specs.Lambdas.{Under}
-use Rattle.rewrite.specs.BelowLaws.{Opens, Below, below_gives}
+use Rattle.rewrite.specs.BelowLaws.{Opens, Below, below_gives, below_fails}
 use Rattle.rewrite.specs.WritesLaws.{gives_lambda}
 use Rattle.show.proofs.Shows.{unrolls, Gives}
 use Rattle.show.specs.Shows.{ShowsTerm}
@@ -29,5 +33,9 @@ module _ {O : ℕ} {m : Map} {ws ss os : List ℕ} (used : ℕ) {F : ℕ} where
       }
 
   module _ {d₀ r₀ d r : ℕ} {w : Record} (h : Below (ReadyTerm O m ws ss os F) (λ s. Gives O m ws s os used F) O ws os d₀ r₀ d r w) where
-    pub below_ends : (os₁ : List ℕ) (x : Walked) (os₂ : List ℕ) (y : Walked) → ShowsTerm O m ws ss os used F d r os₁ x → Under 0 O (d - d₀) os₁ x os₂ y → ShowsTerm O m ws ss os used F d₀ r₀ os₂ y
-    below_ends os₁ x os₂ y p q = record { run = below_gives h 0 ss ss os₁ x os₂ y p.run q; grown = q.grown }
+    module _ (os₁ : List ℕ) (x : Answer) (p : ShowsTerm O m ws ss os used F d r os₁ x) where
+      pub below_stops : (e : Failure) (y : Answer) → x ≡ Err e → y ≡ Err e → ShowsTerm O m ws ss os used F d₀ r₀ os₁ y
+      below_stops e y q o = rw o (record { run = below_fails h ss ss os₁ e (rw q at p.run); grown = since_failed _ _ })
+
+      pub below_ends : (v : Written) (os₂ : List ℕ) (y : Answer) → x ≡ Ok v → Under 0 O (d - d₀) os₁ v os₂ y → ShowsTerm O m ws ss os used F d₀ r₀ os₂ y
+      below_ends v os₂ y q g = record { run = below_gives h 0 ss ss os₁ v os₂ y (rw q at p.run) g; grown = g.grown }

@@ -7,7 +7,12 @@ use native.Mathlib.Omega.{arith}
 use lib.ListN.{length, get_or}
 use mir.Syntax.{w32}
 use mir.Val.{Fits}
-use Rattle.store.specs.declared.Walked.{Walked}
+use Rattle.std.specs.Prelude.{Option, Some, Ok, Err}
+use Rattle.rules.specs.declared.Failure.{Failure}
+use Rattle.rules.specs.Store.{push}
+use Rattle.store.specs.declared.Written.{Written}
+use Rattle.store.specs.Solutions.{solution_in}
+use Rattle.store.specs.SolutionsLaws.{word_some, word_real}
 use Rattle.table.specs.declared.Record.{Record}
 use Rattle.table.specs.Reading.{IsRecord}
 use Rattle.places.specs.declared.Map.{Map}
@@ -18,32 +23,31 @@ use Rattle.invariants.specs.Places.{followed}
 use Rattle.invariants.specs.Rise.{reach, raised_on, Rises, rises}
 use Rattle.promise.proofs.CopyKnown.{full_place, full_arguments}
 use Rattle.promise.proofs.ShowKnown.{full_hole}
-use Rattle.store.specs.Said.{store, Then, over}
+use Rattle.store.specs.Said.{Answer, store, Does}
 use Rattle.places.specs.Maps.{map_of}
 use Rattle.places.specs.Looking.{Looks}
 use Rattle.places.specs.Lists.{vars_of}
 use Rattle.places.specs.Follow.{Followed}
-use Rattle.store.specs.Writing.{Writing}
 use Rattle.rewrite.specs.Renamed.{Renaming}
 use Rattle.rewrite.specs.Renamings.{Renamings}
 use Rattle.rewrite.specs.LevelsLaws.{Headed, of_constant}
 use Rattle.rewrite.specs.PartsLaws.{counts_at}
 use Rattle.rewrite.specs.TermsLaws.{at_read, at_low, at_less, at_body, at_variable, at_size, at_args}
-use Rattle.rewrite.specs.WritesLaws.{writes_rigid}
+use Rattle.rewrite.specs.WritesLaws.{writes_stops, writes_rigid}
 use Rattle.show.proofs.Shows.{unrolls, show-occurrence, hole_expanded}
 use Rattle.show.specs.Shows.{ShowsTerm, ShowsList, ShowsHole}
 use Rattle.show.specs.Ready.{On, ReadyTerm, ReadyBody, ReadyList, ReadyHole}
 
 module _ {O : ℕ} {m : Map} {os : List ℕ} {F d k : ℕ} where
   looks_on : On O m os F d k → Looks false m d
-  looks_on o = let f = o.fits in record { top = o.top; whole = o.whole; low = o.low; fits = omega arith }
+  looks_on o = let f = o.fits in record { top = o.top; low = o.low; fits = omega arith }
 
   -- the same output and map, elsewhere and deeper
   pub on_part : (c j : ℕ) (os₁ : List ℕ) → On O m os F d k → length os₁ ≡ length os → c + reach 4096 F j ≤ d + reach 4096 F k → On O m os₁ F c j
   on_part c j os₁ o e le =
       let f = o.fits in
       let r = o.room in
-      record { room = omega arith; whole = o.whole; top = o.top; low = o.low; fits = omega arith; floor = o.floor }
+      record { room = omega arith; top = o.top; low = o.low; fits = omega arith; floor = o.floor }
 
 module _ {O : ℕ} {m : Map} {ws ss os : List ℕ} {F d r : ℕ} where
   pub to_read : ReadyTerm O m ws ss os F d r → 4 * r + 3 < length ws
@@ -87,9 +91,12 @@ module _ {O : ℕ} {m : Map} {ws ss os : List ℕ} {F d r : ℕ} where
           let s = at_size h.on.at w e a b in
           record { table = h.on.table; scope = h.on.scope; at = at_args h.on.at w e a b; on = on_part d (size w.b) os h.on.on refl (omega arith); full = h.on.full }
 
-      pub shows_rigid : (v : ℕ) (os₁ : List ℕ) (used : ℕ) (x : Walked) (os₂ : List ℕ) (y : Walked) → Headed (map_of false m) d w v
-          → ShowsList O m ws ss os used F d w.b os₁ x → Then 0 (over O w.tag v) os₁ x os₂ y → ShowsTerm O m ws ss os used F d r os₂ y
-      shows_rigid v os₁ used x os₂ y t p q = writes_rigid (unrolls O ws) 4096 0 F (map_of false m) d r os ss used w e v os₁ ss x os₂ y t (at_size h.on.at w e a b) p q
+      module _ (v : ℕ) (os₁ : List ℕ) (used : ℕ) (x : Answer) (t : Headed (map_of false m) d w v) (p : ShowsList O m ws ss os used F d w.b os₁ x) where
+        pub shows_stops : (f : Failure) (y : Answer) → x ≡ Err f → y ≡ Err f → ShowsTerm O m ws ss os used F d r os₁ y
+        shows_stops f y q o = writes_stops (unrolls O ws) 4096 0 F (map_of false m) d r os ss used w e v os₁ ss x t (at_size h.on.at w e a b) p f y q o
+
+        pub shows_rigid : (c : Written) (os₂ : List ℕ) (y : Answer) → x ≡ Ok c → Does 0 (push O w.tag v c.root) os₁ c.used os₂ y → ShowsTerm O m ws ss os used F d r os₂ y
+        shows_rigid c os₂ y q g = writes_rigid (unrolls O ws) 4096 0 F (map_of false m) d r os ss used w e v os₁ ss x t (at_size h.on.at w e a b) p c os₂ y q g
 
     -- an occurrence
     module _ (k : w.tag ≡ HA) where
@@ -140,7 +147,6 @@ module _ {O : ℕ} {m : Map} {ws ss os : List ℕ} {F d r : ℕ} where
             is = risen;
             on = record {
               room = h.on.on.room;
-              whole = f.whole;
               top = h.on.on.top + d;
               low = rw f.run (followed (map_of false m) d h.on.on.top 0 (vars_of ws w.b) h.on.on.low).low;
               fits = omega arith;
@@ -149,7 +155,7 @@ module _ {O : ℕ} {m : Map} {ws ss os : List ℕ} {F d r : ℕ} where
             known = rw (f.run, e.a_is, e.b_is) (full_hole h.on.full h.on.at.known nine);
           }
 
-      pub shows-occurrence : (next : Map) (used : ℕ) (os₁ : List ℕ) (x : Walked) → Followed ws false m d w.b next → ShowsHole O next ws ss os used (r + 1) w.a os₁ x → ShowsTerm O m ws ss os used F d r os₁ x
+      pub shows-occurrence : (next : Map) (used : ℕ) (os₁ : List ℕ) (x : Answer) → Followed ws false m d w.b next → ShowsHole O next ws ss os used (r + 1) w.a os₁ x → ShowsTerm O m ws ss os used F d r os₁ x
       shows-occurrence next used os₁ x f p = show-occurrence O m ws ss os used F d r w e next (r + 1) os₁ x nine f (let l = at_low h.on.at in let o = own in omega arith) p
 
 -- holes
@@ -157,10 +163,13 @@ module _ {O : ℕ} {m : Map} {ws ss os : List ℕ} {F h : ℕ} (g : ReadyHole O 
   pub to_solution : h < length ss
   to_solution = g.held
 
-  pub to_write : (used : ℕ) → Writing os 0 used O m
-  to_write used = record { room = g.on.room; since = omega arith; whole = g.on.whole }
+  module _ (o : Option ℕ) (is : solution_in ss h ≡ o) (t : ℕ) (some : o ≡ Some t) where
+    st : get_or ss h NONE ≡ t
+    st = word_some (get_or ss h NONE) o is t some
 
-  module _ (t : ℕ) (st : get_or ss h NONE ≡ t) (ne : t ≡ NONE → ⊥) where
+    ne : t ≡ NONE → ⊥
+    ne = word_real (get_or ss h NONE) o is t some
+
     at : Sub ws g.table.home F g.table.used t
     at = rw st at (g.is (λ q. ne (sym st ∙ q)))
 
@@ -173,5 +182,5 @@ module _ {O : ℕ} {m : Map} {ws ss os : List ℕ} {F h : ℕ} (g : ReadyHole O 
     pub to_term : ReadyTerm O m ws ss os F 0 t
     to_term = let l = low in record { table = g.table; scope = g.known.scope; at = record { fine = g.table.fine; is = at; known = g.known.solution t st ne }; on = on_part 0 (suc t) os g.on refl (omega arith); full = g.known.full }
 
-    pub shows-solution : (used : ℕ) (os₁ : List ℕ) (x : Walked) → ShowsTerm O m ws ss os used F 0 t os₁ x → ShowsHole O m ws ss os used F h os₁ x
+    pub shows-solution : (used : ℕ) (os₁ : List ℕ) (x : Answer) → ShowsTerm O m ws ss os used F 0 t os₁ x → ShowsHole O m ws ss os used F h os₁ x
     shows-solution used os₁ x p = hole_expanded O m ws ss os used F h t st os₁ x ne low p

@@ -1,13 +1,11 @@
 -- Showing writes no word past the output's records, also where it fails.
 use Prim.Native.Nat.{ℕ, zero, suc, ◌+◌}
-use Rattle.std.specs.Prelude.{◌≡◌, Bool}
+use Rattle.std.specs.Prelude.{◌≡◌, Bool, Option, ℕ, Some, None}
 use Rattle.std.proofs.Math.Path.{refl}
 use mathlib.Core.List.{List, [], ◌∷◌}
 use Rattle.std.proofs.Math.Bool.{true, false}
 use Rattle.std.proofs.Common.{arith, ltb-true}
 use Rattle.std.proofs.Math.Dec.{ltb}
-use Rattle.rules.specs.declared.Found.{Found}
-use Rattle.rules.specs.declared.Found.TheVariants.{At, Nowhere}
 use Rattle.rules.specs.Words.{NONE, Form, lambda, constant, variable, hole, form, field_a, arguments, variables, CE, LA, CA, VA, HA}
 use Rattle.rules.specs.Store.{Store, Out, goes, fails, spent, fail, ◌>>=◌, push, push_variables, push_occurrence, solved, solution}
 use Rattle.rules.specs.Map.{Map, targets, place_of, follow}
@@ -80,11 +78,11 @@ module _ (O : ℕ) where
         headed : (t a : ℕ) → Leaves O s (write_all w O m d (arguments ws r) s >>= (λ q. push O t a q.1 q.0))
         headed t a = bind_leaves O s (write_all w O m d (arguments ws r) s) _ (all_leave m d (arguments ws r) s) λ s₁ x. push-leaves t a x s₁
 
-        go : (f : Form) → form ws r ≡ f → (p : Found) → place_of m d (field_a ws r) ≡ p → Leaves O s (write_term (expand_hole w O ws) w O ws m d r s)
+        go : (f : Form) → form ws r ≡ f → (p : Option ℕ) → place_of m d (field_a ws r) ≡ p → Leaves O s (write_term (expand_hole w O ws) w O ws m d r s)
         go lambda e p q = rw (e, write_term) (bind_leaves O s (w m (d + 1) (field_a ws r) s) _ (leaving m (d + 1) (field_a ws r) s) λ s₁ x. push-leaves LA x 0 s₁)
         go constant e p q = rw (e, write_term) (headed CA (field_a ws r))
-        go variable e Nowhere q = rw (e, write_term, q) (outside_refl O 0 s)
-        go variable e (At v) q = rw (e, write_term, q) (headed VA v)
+        go variable e None q = rw (e, write_term, q) (outside_refl O 0 s)
+        go variable e (Some v) q = rw (e, write_term, q) (headed VA v)
         go hole e p q = rw (e, write_term) (hole_leaves (field_a ws r) (follow m d 0 (variables ws r)) s)
 
   show-leaves : (f : ℕ) (ws : List ℕ) → Leaving (show_term f O ws)

@@ -9,7 +9,7 @@ use Rattle.invariants.specs.Rise.{reach}
 use Rattle.promise.specs.CopyKnown.{Full}
 use Rattle.promise.specs.ShowKnown.{HoleKnown}
 use Rattle.store.specs.Said.{store}
-use Rattle.places.specs.Maps.{map_of, Whole}
+use Rattle.places.specs.Maps.{map_of}
 use Rattle.rewrite.specs.Terms.{TermAt, ListAt}
 
 -- the table that is read: of a final store of the machine
@@ -23,7 +23,6 @@ pub record Final (ws ss : List ℕ) : Type 0 where
 -- the output and the map, at a measure k under a floor that is in a solution
 pub record On (O : ℕ) (m : Map) (os : List ℕ) (F d k : ℕ) : Type 0 where
   pub room : 4 * O ≤ length os
-  pub whole : Whole m
   pub top : ℕ
   pub low : Low (map_of false m) top
   pub fits : top + d + reach 4096 F k < 134217728

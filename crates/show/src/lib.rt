@@ -8,13 +8,15 @@ ghost use Rattle.show.specs.Shows.{ShowsTerm, ShowsList, ShowsHole};
 ghost use Rattle.show.specs.Ready.{ReadyTerm, ReadyBody, ReadyList, ReadyHole};
 ghost use Rattle.show.specs.Answer.{Answering};
 
-use places::{Map, in_order};
+use arrayvec::ArrayVec;
+use places::Map;
 use rewrite::{renamed, renamings, then_lambdas};
-use store::{Walked, push, push_cells, push_occurrence, solution_of, then_over};
-use table::{HA, Hole, LA, NONE, VA, Variable, read};
+use rules::Failure;
+use store::{Part, Written, push, push_cells, push_occurrence, solution_of};
+use table::{HA, Hole, LA, NONE, VA, Variable, elements, read};
 
 // What the parts of a showing share: an output of `room` records, and the floor. The floor is there for the proof that showing ends:
-// no record below it is read, and it rises at each solved hole.
+// no record below it is read, and it rises at each solved hole. It holds no `Part`, whose n would have to be 0 in each contract.
 #[derive(Clone, Copy)]
 struct Task {
     room: u32,
@@ -32,7 +34,7 @@ fn show_term(
     map: Map,
     depth: u32,
     at: u32,
-) -> Walked
+) -> Result<Written, Failure>
     requires { ReadyTerm task.room map table.now solutions.now output.old task.floor depth at }
     ensures { ShowsTerm task.room map table.now solutions.now output.old used task.floor depth at output.new result }
 {
@@ -44,8 +46,12 @@ fn show_term(
         term = rec.a;
         rec = read(table, term);
     }
-    let body = show_body(table, solutions, output, task, used, map, inner, term);
-    then_lambdas(output, 0, task.room, inner - depth, body)
+    let body = show_body(table, solutions, output, task, used, map, inner, term)?;
+    let part = Part {
+        n: 0,
+        room: task.room,
+    };
+    then_lambdas(output, part, inner - depth, body)
 }
 
 // The same for a term that is no lambda.
@@ -59,27 +65,33 @@ fn show_body(
     map: Map,
     depth: u32,
     at: u32,
-) -> Walked
+) -> Result<Written, Failure>
     requires { ReadyBody task.room map table.now solutions.now output.old task.floor depth at }
     ensures { ShowsTerm task.room map table.now solutions.now output.old used task.floor depth at output.new result }
 {
     let rec = read(table, at);
     if rec.tag == HA {
         let next = renamings(table, map, depth, rec.b);
-        let mut below = task;
-        below.floor = at + 1;
+        let below = Task {
+            floor: at + 1,
+            ..task
+        };
         return show_hole(table, solutions, output, below, used, Hole(rec.a), next);
     }
-    let mut head = rec.a;
-    if rec.tag == VA {
-        let v = renamed(map, depth, Variable(rec.a));
-        head = v.0;
-    }
+    let head = if rec.tag == VA {
+        renamed(map, depth, Variable(rec.a)).0
+    } else {
+        rec.a
+    };
+    let part = Part {
+        n: 0,
+        room: task.room,
+    };
     if rec.b == NONE {
-        return push(output, 0, used, task.room, rec.tag, head, NONE);
+        return push(output, part, used, rec.tag, head, NONE);
     }
-    let args = show_args(table, solutions, output, task, used, map, depth, rec.b);
-    then_over(output, 0, task.room, rec.tag, head, args)
+    let args = show_args(table, solutions, output, task, used, map, depth, rec.b)?;
+    push(output, part, args.used, rec.tag, head, args.root)
 }
 
 // An argument list: arguments in order, then their cells from last to first.
@@ -93,27 +105,22 @@ fn show_args(
     map: Map,
     depth: u32,
     list: u32,
-) -> Walked
+) -> Result<Written, Failure>
     requires { ReadyList task.room map table.now solutions.now output.old task.floor depth list }
     ensures { ShowsList task.room map table.now solutions.now output.old used task.floor depth list output.new result }
 {
-    let mut noted = [0u32; 16];
-    let mut k = 0;
+    let mut noted = ArrayVec::<u32, 16>::new();
     let mut taken = used;
-    let mut left = list;
-    while left != NONE {
-        let cell = read(table, left);
-        match show_term(table, solutions, output, task, taken, map, depth, cell.a) {
-            Walked::Failed(e) => return Walked::Failed(e),
-            Walked::Root { root, used: then } => {
-                noted[k] = root;
-                k += 1;
-                taken = then;
-            }
-        }
-        left = cell.b;
+    for argument in elements(table, list) {
+        let shown = show_term(table, solutions, output, task, taken, map, depth, argument)?;
+        noted.push(shown.root);
+        taken = shown.used;
     }
-    push_cells(output, 0, taken, task.room, &noted, k)
+    let part = Part {
+        n: 0,
+        room: task.room,
+    };
+    push_cells(output, part, taken, &noted)
 }
 
 // A hole under a map of its context: a solved hole is expanded, an unsolved one is written.
@@ -126,24 +133,33 @@ fn show_hole(
     used: u32,
     hole: Hole,
     map: Map,
-) -> Walked
+) -> Result<Written, Failure>
     requires { ReadyHole task.room map table.now solutions.now output.old task.floor hole.0 }
     ensures { ShowsHole task.room map table.now solutions.now output.old used task.floor hole.0 output.new result }
 {
-    let t = solution_of(solutions, hole);
-    if t == NONE {
-        return push_occurrence(output, 0, used, task.room, hole, map, false);
+    let part = Part {
+        n: 0,
+        room: task.room,
+    };
+    match solution_of(solutions, hole) {
+        None => push_occurrence(output, part, used, hole, map, false),
+        Some(solution) => show_term(table, solutions, output, task, used, map, 0, solution),
     }
-    show_term(table, solutions, output, task, used, map, 0, t)
 }
 
 // The answer of an input hole, over its context variables in order.
-pub fn answer(table: &[u32], solutions: &[u32], output: &mut [u32], room: u32, hole: Hole) -> Walked
+pub fn answer(
+    table: &[u32],
+    solutions: &[u32],
+    output: &mut [u32],
+    room: u32,
+    hole: Hole,
+) -> Result<Written, Failure>
     requires { Answering room table.now solutions.now output.old hole.0 }
     ensures { answer_of room table.now hole.0 (store output.old solutions.now 0) ≡ shown output.new solutions.now result }
 {
     let rec = read(table, hole.0);
-    let map = in_order(table, rec.a);
+    let map = Map::in_order(table, rec.a);
     let task = Task { room, floor: 1 };
     show_hole(table, solutions, output, task, 0, hole, map)
 }

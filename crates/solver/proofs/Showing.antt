@@ -1,4 +1,5 @@
 -- What solve leaves, and show, refused or answered.
+use Rattle.std.specs.Prelude.{Option, Some, None}
 use Prim.Native.Nat.{ℕ, zero, suc}
 use mathlib.Core.Path.{◌≡◌, refl, ap, ◌∙◌}
 use mathlib.Core.List.{List}
@@ -8,14 +9,12 @@ use mir.Val.{Fits}
 use Rattle.rules.specs.declared.Reply.{Reply}
 use Rattle.rules.specs.Solve.{refusal, Behind, leaves, solve}
 use Rattle.rules.specs.Show.{Shown, shows, show}
-use Rattle.checks.specs.declared.Asked.{Asked}
-use Rattle.checks.specs.declared.Asked.TheVariants.{Solving, Record as Asking}
 use Rattle.checks.specs.Refusing.{asks, is_hole}
 use Rattle.solving.specs.Checking.{AskedLeaves}
 use Rattle.solver.specs.Answering.{Writes}
 use Rattle.solver.specs.AnsweringLaws.{answerable}
 
-pub solves : (ws ss qs : List ℕ) (n : ℕ) (l : Behind) → leaves (refusal (asks Solving ws n) ws ss n) ws ss qs n ≡ l → solve ws ss qs n ≡ l
+pub solves : (ws ss qs : List ℕ) (n : ℕ) (l : Behind) → leaves (refusal (asks None ws n) ws ss n) ws ss qs n ≡ l → solve ws ss qs n ≡ l
 unfolding solve asks
 solves ws ss qs n l h = h
 
@@ -27,8 +26,8 @@ shows_refused : (l : Behind) (os : List ℕ) (h : ℕ) → (l.said.answer ≡ 0 
 unfolding shows
 shows_refused l os h ne = some_answer _ _ l.said.answer ne
 
-module _ (asked : Asked) (ws ss qs : List ℕ) (n h : ℕ) (ws₁ ss₁ qs₁ : List ℕ) (r : Reply)
-    (e : AskedLeaves asked ws ss qs n ws₁ ss₁ qs₁ r) (is : asked ≡ Asking h) where
+module _ (asked : Option ℕ) (ws ss qs : List ℕ) (n h : ℕ) (ws₁ ss₁ qs₁ : List ℕ) (r : Reply)
+    (e : AskedLeaves asked ws ss qs n ws₁ ss₁ qs₁ r) (is : asked ≡ Some h) where
   abbrev behind : Behind
   behind = record { table = ws₁; solutions = ss₁; queue = qs₁; said = r }
 

@@ -1,5 +1,5 @@
 -- Where solving answers 0, a hole's answer can be written.
-use Rattle.std.specs.Prelude.{ℕ, ◌+◌, ◌-◌, ◌*◌, ◌<◌, ◌≤◌, ◌≡◌, Bool, length}
+use Rattle.std.specs.Prelude.{ℕ, ◌+◌, ◌-◌, ◌*◌, ◌<◌, ◌≤◌, ◌≡◌, Bool, length, Option, Some}
 use Rattle.std.proofs.Math.Path.{refl, ap}
 use Rattle.std.proofs.Common.{sym, ◌∙◌, inl, inr}
 use mathlib.Core.List.{List}
@@ -35,8 +35,6 @@ use Rattle.promise.specs.Admitting.{admitted_is}
 use Rattle.promise.specs.Ending.{Final as Ran}
 use Rattle.promise.proofs.Ending.{final_good, machine_ends}
 use Rattle.promise.proofs.ShowKnown.{hole_in_order}
-use Rattle.checks.specs.declared.Asked.{Asked}
-use Rattle.checks.specs.declared.Asked.TheVariants.{Record as Asking}
 use Rattle.checks.specs.Refusing.{asks, is_hole}
 use Rattle.solving.specs.Checking.{AskedLeaves}
 use Rattle.solver.specs.Answering.{Answerable}
@@ -91,8 +89,8 @@ number_some Occurs = omega arith
 number_some QueueFull = omega arith
 number_some TableFull = omega arith
 
-module _ (asked : Asked) (ws ss qs : List ℕ) (n h : ℕ) (ws₁ ss₁ qs₁ : List ℕ) (r : Reply)
-    (e : AskedLeaves asked ws ss qs n ws₁ ss₁ qs₁ r) (is : asked ≡ Asking h) where
+module _ (asked : Option ℕ) (ws ss qs : List ℕ) (n h : ℕ) (ws₁ ss₁ qs₁ : List ℕ) (r : Reply)
+    (e : AskedLeaves asked ws ss qs n ws₁ ss₁ qs₁ r) (is : asked ≡ Some h) where
   abbrev behind : Behind
   behind = record { table = ws₁; solutions = ss₁; queue = qs₁; said = r }
 

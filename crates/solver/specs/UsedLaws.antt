@@ -1,14 +1,12 @@
 -- A reply's used is at most 4,096.
 use Prim.Native.Nat.{ℕ, zero, suc, ◌*◌, ◌/◌, ◌%◌, ◌≤◌}
-use Rattle.std.specs.Prelude.{◌≡◌, List, [], Bool, eqb}
+use Rattle.std.specs.Prelude.{◌≡◌, List, [], Bool, eqb, Option, ℕ, Some, None}
 use Rattle.std.proofs.Math.Path.{refl, ap}
 use Rattle.std.proofs.Math.Bool.{true, false, not}
 use native.Mathlib.Omega.{arith}
 use Rattle.std.proofs.Math.ListN.{length}
 use Rattle.std.proofs.Math.Dec.{ltb}
 use borrow.Author.Tests.{ltb-false}
-use Rattle.rules.specs.declared.Found.{Found}
-use Rattle.rules.specs.declared.Found.TheVariants.{At, Nowhere}
 use Rattle.rules.specs.declared.Refused.{Refused}
 use Rattle.rules.specs.declared.Refused.TheVariants.{NoRoom, Broken, NoHole, IllTyped, NoPattern}
 use Rattle.rules.specs.declared.Reply.{Reply}
@@ -96,12 +94,12 @@ module _ (bs ws : List ℕ) where
   unfolding read
   read_low = go (either (ltb 28672 (length bs)) (not (eqb (length bs % 14) 0))) refl (ltb (records ws) (length bs / 14)) refl (lowest (length bs / 14) (λ r. not (is_known (marked bs r)))) refl
     where
-      go : (a : Bool) → either (ltb 28672 (length bs)) (not (eqb (length bs % 14) 0)) ≡ a → (b : Bool) → ltb (records ws) (length bs / 14) ≡ b → (c : Found) → lowest (length bs / 14) (λ r. not (is_known (marked bs r))) ≡ c
+      go : (a : Bool) → either (ltb 28672 (length bs)) (not (eqb (length bs % 14) 0)) ≡ a → (b : Bool) → ltb (records ws) (length bs / 14) ≡ b → (c : Option ℕ) → lowest (length bs / 14) (λ r. not (is_known (marked bs r))) ≡ c
           → (read bs ws).said.used ≤ 4096
       go true e b f c g = rw (e, read) (omega arith)
       go false e true f c g = rw (e, read, f) (omega arith)
-      go false e false f (At r) g = rw (e, read, f, g) (omega arith)
-      go false e false f Nowhere g = let l : length bs / 14 ≤ records ws = ltb-false _ _ f in let m = records_few ws in rw (e, read, f, g) (omega arith)
+      go false e false f (Some r) g = rw (e, read, f, g) (omega arith)
+      go false e false f None g = let l : length bs / 14 ≤ records ws = ltb-false _ _ f in let m = records_few ws in rw (e, read, f, g) (omega arith)
 
   pub read-used : (ws₁ : List ℕ) (r : Reply) → read bs ws ≡ record { table = ws₁; said = r } → r.used ≤ 4096
   read-used ws₁ r e = let u = read_low in let z : (read bs ws).said.used ≡ r.used = ap (λ (f : Read). f.said.used) e in omega arith

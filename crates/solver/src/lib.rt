@@ -6,18 +6,18 @@ ghost use Rattle.rules.specs.Solve.{solve as solveOf};
 ghost use Rattle.rules.specs.Show.{show as showOf};
 ghost use Rattle.solver.specs.Answering.{Answerable, Writes};
 
-use checks::{Asked, room_of};
+use checks::room_of;
 use rules::Reply;
 use show::answer;
 use solving::solve_asked;
-use store::{Walked, fill};
-use table::Hole;
+use store::fill;
+use table::{Hole, reply};
 
 // Solving the first n records of a table, with solution and queue words.
 pub fn solve(table: &mut [u32], n: usize, solutions: &mut [u32], queue: &mut [u32]) -> Reply
     ensures { solveOf table.old solutions.old queue.old n ≡ record { table = table.new; solutions = solutions.new; queue = queue.new; said = result } }
 {
-    solve_asked(table, n, solutions, queue, Asked::Solving)
+    solve_asked(table, n, solutions, queue, None)
 }
 
 // The answer of an input hole after solving, in an output whose counted records are cleared first; too few of them are left zero.
@@ -29,18 +29,14 @@ pub fn write_answer(table: &[u32], solutions: &[u32], output: &mut [u32], hole: 
     let words = 4 * (room as usize);
     fill(output, 0, words, 0);
     match answer(table, solutions, output, room, hole) {
-        Walked::Root { root: _, used } => Reply {
+        Ok(written) => Reply {
             answer: 0,
             place: 0,
-            used,
+            used: written.used,
         },
-        Walked::Failed(_) => {
+        Err(_) => {
             fill(output, 0, words, 0);
-            Reply {
-                answer: 11,
-                place: 0,
-                used: 0,
-            }
+            reply(11, 0)
         }
     }
 }
@@ -56,7 +52,7 @@ pub fn show(
 ) -> Reply
     ensures { showOf table.old solutions.old queue.old output.old n hole ≡ record { behind = record { table = table.new; solutions = solutions.new; queue = queue.new; said = result }; output = output.new } }
 {
-    let reply = solve_asked(table, n, solutions, queue, Asked::Record(hole));
+    let reply = solve_asked(table, n, solutions, queue, Some(hole));
     if reply.answer != 0 {
         return reply;
     }

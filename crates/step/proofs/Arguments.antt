@@ -1,38 +1,45 @@
--- Step 3: the argument pairs join the queue, unless waiting pairs plus new ones exceed C.
+-- Step 3: the argument pairs join the queue, unless waiting pairs plus new ones exceed cap.
 use Prim.Native.Nat.{ℕ, ◌+◌, ◌<◌, ◌≤◌}
 use mathlib.Core.Path.{◌≡◌}
 use mathlib.Core.List.{List}
 use native.Mathlib.Omega.{arith}
 use lib.ListN.{length}
 use borrow.Author.Tests.{le-leb, lt-leb}
-use Rattle.rules.specs.declared.Failure.TheVariants.{QueueFull}
+use Rattle.std.specs.Prelude.{Result, Ok, Err}
+use Rattle.rules.specs.declared.Failure.{Failure}
 use Rattle.queue.specs.declared.Ring.{Ring}
-use Rattle.queue.specs.declared.Joined.{Joined}
-use Rattle.queue.specs.declared.Joined.TheVariants.{Full, To}
-use Rattle.step.specs.declared.Step.TheVariants.{Done, Failed as Fell}
-use Rattle.rules.specs.Store.{fail, ◌>>=◌}
-use Rattle.rules.specs.Machine.{join}
+use Rattle.step.specs.declared.Step.TheVariants.{Done}
+use Rattle.rules.specs.Store.{goes, fail, ◌>>=◌}
+use Rattle.rules.specs.Machine.{Pair as Waiting, done, join}
+use Rattle.store.specs.Said.{store}
 use Rattle.queue.specs.Ring.{view, Queued}
 use Rattle.queue.specs.RingLaws.{view-length}
-use Rattle.queue.specs.Arguments.{pairs_of}
+use Rattle.step.specs.Said.{Answer, stepped, Rings}
 use Rattle.step.proofs.Said.{failed_rings, done_rings}
-use Rattle.step.specs.Arguments.{Argues}
 
-module _ (ws q : List ℕ) (cap : ℕ) (g : Ring) (used l r : ℕ) (q₁ : List ℕ) (x : Joined) (h : Queued q cap g (pairs_of ws l r) q₁ x) where
-  pub argues_full : x ≡ Full → Argues ws q cap g used l r q₁ (Fell QueueFull)
+-- these pairs were to join, and this is the step's answer
+pub record Argues (q : List ℕ) (g : Ring) (new : List Waiting) (used : ℕ) (q₁ : List ℕ) (x : Answer) : Type 0 where
+  pub said : (ws ss : List ℕ) → (join g.cap (view q g) new (store ws ss used) >>= (λ p. goes p.0 (done p.1))) ≡ stepped ws ss q₁ x
+  pub rings : Rings g.cap q q₁ x
+
+module _ (q : List ℕ) (g : Ring) (new : List Waiting) (used : ℕ) (q₁ : List ℕ) (x : Result Ring Failure) (h : Queued q g new q₁ x) where
+  pub argues_full : (e : Failure) → x ≡ Err e → Argues q g new used q₁ (Err e)
   unfolding join fail ◌>>=◌
-  argues_full e =
-      let c = h.full e in
-      let v = view-length q cap g in
-      let o : cap < length (view q cap g) + length (pairs_of ws l r) = omega arith in
-      record { said = λ ss. rw (lt-leb _ _ o, join); rings = failed_rings cap q q₁ QueueFull }
+  argues_full e z =
+      let c = h.full e z in
+      let f = c.0 in
+      let k = c.1 in
+      let v = view-length q g in
+      let o : g.cap < length (view q g) + length new = omega arith in
+      record { said = λ ws ss. rw (f, lt-leb _ _ o, join); rings = failed_rings g.cap q q₁ e }
 
-  pub argues_joins : (g₁ : Ring) → x ≡ To g₁ → Argues ws q cap g used l r q₁ (Done g₁ used)
+  pub argues_joins : (g₁ : Ring) → x ≡ Ok g₁ → Argues q g new used q₁ (Ok (Done g₁ used))
   unfolding join ◌>>=◌
-  argues_joins g₁ e =
-      let j = h.to g₁ e in
+  argues_joins g₁ z =
+      let j = h.to g₁ z in
       let c = j.counted in
-      let f = j.fine.count in
-      let v = view-length q cap g in
-      let o : length (view q cap g) + length (pairs_of ws l r) ≤ cap = omega arith in
-      record { said = λ ss. rw (le-leb _ _ o, join, j.seen); rings = done_rings cap q q₁ g₁ used j.fine }
+      let s = j.same in
+      let f = g₁.fits in
+      let v = view-length q g in
+      let o : length (view q g) + length new ≤ g.cap = omega arith in
+      record { said = λ ws ss. rw (le-leb _ _ o, join, j.seen); rings = done_rings g.cap q q₁ g₁ used j.fine s }

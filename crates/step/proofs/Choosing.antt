@@ -2,6 +2,7 @@
 use Prim.Native.Nat.{ℕ, ◌≤◌}
 use mathlib.Core.Path.{◌≡◌, refl, sym, ap, ◌∙◌}
 use mathlib.Core.List.{List}
+use mathlib.Core.Logic.{◌⊎◌, inl, inr}
 use mathlib.Core.Bool.{Bool, true, false}
 use native.Mathlib.Omega.{arith}
 use native.Mathlib.Decide.{ℕ_discrete}
@@ -19,17 +20,15 @@ use Rattle.rules.specs.Machine.{Pair as Waiting, Next, on, done, zip, join, same
 use Rattle.laws.specs.Tests.{both_yes, either_left, has_yes, has_no}
 use Rattle.store.specs.Said.{store}
 use Rattle.step.specs.Said.{finish}
-use Rattle.step.specs.Meets.{Tested, TwoLambdas, SameHeads, Terms, in_order, turned, MeetsAs}
+use Rattle.step.specs.Meets.{Terms, in_order, turned, MeetsAs}
 
-pub second_tested : {P : Type 0} {i j : ℕ} {b : Bool} → P → eqb i j ≡ b → Tested P (i ≡ j) b
-second_tested {P} {i} {j} {b} t e = go (ℕ_discrete i j)
-  where
-    go : Dec (i ≡ j) → Tested P (i ≡ j) b
-    go (yes a) = let z : true ≡ b = sym (eq-eqb _ _ a) ∙ e in record { yes = λ p. (t, a); no = λ p. let w : ◌≡◌ {A = ℕ} 0 1 = cc in absurd (omega arith) }
-    go (no a) = let z : false ≡ b = sym (ne_eqb _ _ a) ∙ e in record { yes = λ p. let w : ◌≡◌ {A = ℕ} 0 1 = cc in absurd (omega arith); no = λ p q r. a r }
+-- a test of two things, one after the other, failed
+abbrev Fails : Type 0 → Type 0 → Type 0
+Fails P Q = (P × (Q → ⊥)) ⊎ (P → ⊥)
 
-pub first-fails : {P Q : Type 0} → (P → ⊥) → Tested P Q false
-first-fails t = record { yes = λ p. let w : ◌≡◌ {A = ℕ} 0 1 = cc in absurd (omega arith); no = λ p q r. t q }
+not-both : {P Q : Type 0} → Fails P Q → P → Q → ⊥
+not-both (inl t) p q = t.1 q
+not-both (inr n) p q = n p
 
 eight : (t : ℕ) → 6 ≤ t → t ≤ 9 → (t ≡ 6 → ⊥) → (t ≡ 7 → ⊥) → (t ≡ 9 → ⊥) → t ≡ 8
 eight t a b c d e = omega arith
@@ -125,73 +124,72 @@ module _ (ws : List ℕ) (l r : ℕ) (h : Terms ws l r) (x y : Record) (ex : IsR
   right_not : (k : ℕ) → (y.tag ≡ k → ⊥) → tag ws r ≡ k → ⊥
   right_not k n z = n (ey.tag_is ∙ z)
 
-  module _ (c : Bool) (tl : TwoLambdas x y c) where
-    pub meets_bodies : c ≡ true → MeetsAs ws l r (Bodies x.a y.a)
-    meets_bodies e =
-        let t = tl.yes e in
-        record { run = λ R C q ss u. rw (ex.a_is, ey.a_is) (meet-bodies R C q ws ss u l r (has_yes ws l 6 (left_is 6 t.0)) (has_yes ws r 6 (right_is 6 t.1))); fact = tt }
+  pub meets_bodies : x.tag ≡ LA → y.tag ≡ LA → MeetsAs ws l r (Bodies (record { left = x.a; right = y.a }))
+  meets_bodies s t =
+      record { run = λ R C q ss u. rw (ex.a_is, ey.a_is) (meet-bodies R C q ws ss u l r (has_yes ws l 6 (left_is 6 s)) (has_yes ws r 6 (right_is 6 t))); fact = tt }
 
-    module _ (a : c ≡ false) (s : Bool) (sh : SameHeads x y s) where
-      none : both (has ws l 6) (has ws r 6) ≡ false
-      none = go (ℕ_discrete (tag ws l) LA)
-        where
-          go : Dec (tag ws l ≡ LA) → both (has ws l 6) (has ws r 6) ≡ false
-          go (no p) = both_left _ _ (has_no ws l 6 p)
-          go (yes p) = both_right _ _ (has_yes ws l 6 p) (has_no ws r 6 (λ k. tl.no a (ex.tag_is ∙ p) (ey.tag_is ∙ k)))
+  module _ (a : Fails (x.tag ≡ LA) (y.tag ≡ LA)) where
+    none : both (has ws l 6) (has ws r 6) ≡ false
+    none = go (ℕ_discrete (tag ws l) LA)
+      where
+        go : Dec (tag ws l ≡ LA) → both (has ws l 6) (has ws r 6) ≡ false
+        go (no p) = both_left _ _ (has_no ws l 6 p)
+        go (yes p) = both_right _ _ (has_yes ws l 6 p) (has_no ws r 6 (λ k. not-both a (ex.tag_is ∙ p) (ey.tag_is ∙ k)))
 
+    module _ (s : x.tag ≡ y.tag) (e : x.a ≡ y.a) where
       -- of one kind, with equal heads
-      alike : s ≡ true → (tag ws r ≡ tag ws l) × (field_a ws l ≡ field_a ws r)
-      alike e = let p = sh.yes e in (sym ey.tag_is ∙ sym p.0 ∙ ex.tag_is, sym ex.a_is ∙ p.1 ∙ ey.a_is)
+      alike : (tag ws r ≡ tag ws l) × (field_a ws l ≡ field_a ws r)
+      alike = (sym ey.tag_is ∙ sym s ∙ ex.tag_is, sym ex.a_is ∙ e ∙ ey.a_is)
 
-      pub meets_same : s ≡ true → x.tag ≡ HA → MeetsAs ws l r SameHole
-      meets_same e t =
-          let p = alike e in
+      pub meets_same : x.tag ≡ HA → MeetsAs ws l r SameHole
+      meets_same t =
+          let p = alike in
           let l₁ = left_is 9 t in
           let r₁ : tag ws r ≡ HA = p.0 ∙ l₁ in
           let n₇ : tag ws l ≡ CA → ⊥ = omega arith in
           let n₈ : tag ws l ≡ VA → ⊥ = omega arith in
           record { run = λ R C q ss u. meet_same R C q ws ss u l r none (either_none _ _ (same_not ws 7 l r n₇) (same_not ws 8 l r n₈)) (same_yes ws 9 l r l₁ r₁ p.1); fact = (l₁, r₁, p.1) }
 
-      pub meets_arguments : s ≡ true → (x.tag ≡ HA → ⊥) → MeetsAs ws l r (Arguments x.b y.b)
+      pub meets_arguments : (x.tag ≡ HA → ⊥) → MeetsAs ws l r (Arguments (record { left = x.b; right = y.b }))
       unfolding arguments
-      meets_arguments e t =
-          let p = alike e in
-          record { run = λ R C q ss u. rw (ex.b_is, ey.b_is) (meet-arguments R C q ws ss u l r none (go p (ℕ_discrete (tag ws l) CA))); fact = (seven (tag ws l) h.left.low (unlike p), at_most (tag ws l) h.left.high (left_not 9 t), p.0, p.1, ex.b_is, ey.b_is) }
+      meets_arguments t =
+          let p = alike in
+          record { run = λ R C q ss u. rw (ex.b_is, ey.b_is) (meet-arguments R C q ws ss u l r none (go (ℕ_discrete (tag ws l) CA))); fact = (seven (tag ws l) h.left.low unlike, at_most (tag ws l) h.left.high (left_not 9 t), p.0, p.1, ex.b_is, ey.b_is) }
         where
           -- of one kind, and so no lambdas
-          unlike : (tag ws r ≡ tag ws l) × (field_a ws l ≡ field_a ws r) → tag ws l ≡ LA → ⊥
-          unlike p z = tl.no a (ex.tag_is ∙ z) (ey.tag_is ∙ p.0 ∙ z)
+          unlike : tag ws l ≡ LA → ⊥
+          unlike z = not-both a (ex.tag_is ∙ z) (ey.tag_is ∙ alike.0 ∙ z)
 
-          go : (tag ws r ≡ tag ws l) × (field_a ws l ≡ field_a ws r) → Dec (tag ws l ≡ CA) → either (same_head ws 7 l r) (same_head ws 8 l r) ≡ true
-          go p (yes k) = either_left _ _ (same_yes ws 7 l r k (p.0 ∙ k) p.1)
-          go p (no k) =
-              let k₀ : tag ws l ≡ VA = eight (tag ws l) h.left.low h.left.high (unlike p) k (left_not 9 t) in
-              either_right _ _ (same_not ws 7 l r k) (same_yes ws 8 l r k₀ (p.0 ∙ k₀) p.1)
+          go : Dec (tag ws l ≡ CA) → either (same_head ws 7 l r) (same_head ws 8 l r) ≡ true
+          go (yes k) = either_left _ _ (same_yes ws 7 l r k (alike.0 ∙ k) alike.1)
+          go (no k) =
+              let k₀ : tag ws l ≡ VA = eight (tag ws l) h.left.low h.left.high unlike k (left_not 9 t) in
+              either_right _ _ (same_not ws 7 l r k) (same_yes ws 8 l r k₀ (alike.0 ∙ k₀) alike.1)
 
-      module _ (e : s ≡ false) where
-        differ : (k : ℕ) → same_head ws k l r ≡ false
-        differ k = same_differ ws k l r (λ p c. sh.no e (ex.tag_is ∙ p ∙ sym ey.tag_is) (ex.a_is ∙ c ∙ sym ey.a_is))
+    module _ (d : Fails (x.tag ≡ y.tag) (x.a ≡ y.a)) where
+      differ : (k : ℕ) → same_head ws k l r ≡ false
+      differ k = same_differ ws k l r (λ p c. not-both d (ex.tag_is ∙ p ∙ sym ey.tag_is) (ex.a_is ∙ c ∙ sym ey.a_is))
 
-        solves : (R C : ℕ) (q : List Waiting) (ss : List ℕ) (u : ℕ) → meet R C q l r (store ws ss u) ≡ (solve_one R l r (store ws ss u) >>= finish q)
-        solves R C q ss u = meet-solve R C q ws ss u l r none (either_none _ _ (differ 7) (differ 8)) (differ 9)
+      solves : (R C : ℕ) (q : List Waiting) (ss : List ℕ) (u : ℕ) → meet R C q l r (store ws ss u) ≡ (solve_one R l r (store ws ss u) >>= finish q)
+      solves R C q ss u = meet-solve R C q ws ss u l r none (either_none _ _ (differ 7) (differ 8)) (differ 9)
 
-        pub meets_left : x.tag ≡ HA → MeetsAs ws l r (Solve l r)
-        meets_left t =
-            let l₁ = left_is 9 t in
-            record { run = λ R C q ss u. solves R C q ss u ∙ ap (λ (o : Out ℕ). o >>= finish q) (solve-left R C q ws ss u l r (has_yes ws l 9 l₁)); fact = (l₁, in_order refl refl) }
+      pub meets_left : x.tag ≡ HA → MeetsAs ws l r (Solve l r)
+      meets_left t =
+          let l₁ = left_is 9 t in
+          record { run = λ R C q ss u. solves R C q ss u ∙ ap (λ (o : Out ℕ). o >>= finish q) (solve-left R C q ws ss u l r (has_yes ws l 9 l₁)); fact = (l₁, in_order refl refl) }
 
-        pub meets_right : (x.tag ≡ HA → ⊥) → y.tag ≡ HA → MeetsAs ws l r (Solve r l)
-        meets_right t k =
-            let r₁ = right_is 9 k in
-            record {
-              run = λ R C q ss u. solves R C q ss u ∙ ap (λ (o : Out ℕ). o >>= finish q) (solve_right R C q ws ss u l r (has_no ws l 9 (left_not 9 t)) (has_yes ws r 9 r₁));
-              fact = (r₁, turned refl refl);
-            }
+      pub meets_right : (x.tag ≡ HA → ⊥) → y.tag ≡ HA → MeetsAs ws l r (Solve r l)
+      meets_right t k =
+          let r₁ = right_is 9 k in
+          record {
+            run = λ R C q ss u. solves R C q ss u ∙ ap (λ (o : Out ℕ). o >>= finish q) (solve_right R C q ws ss u l r (has_no ws l 9 (left_not 9 t)) (has_yes ws r 9 r₁));
+            fact = (r₁, turned refl refl);
+          }
 
-        pub meets_clash : (x.tag ≡ HA → ⊥) → (y.tag ≡ HA → ⊥) → MeetsAs ws l r Clash
-        meets_clash t k =
-            record {
-              run = λ R C q ss u.
-                  solves R C q ss u ∙ ap (λ (o : Out ℕ). o >>= finish q) (solve_none R C q ws ss u l r (has_no ws l 9 (left_not 9 t)) (has_no ws r 9 (right_not 9 k))) ∙ fail_on (store ws ss u) q;
-              fact = tt;
-            }
+      pub meets_clash : (x.tag ≡ HA → ⊥) → (y.tag ≡ HA → ⊥) → MeetsAs ws l r Clash
+      meets_clash t k =
+          record {
+            run = λ R C q ss u.
+                solves R C q ss u ∙ ap (λ (o : Out ℕ). o >>= finish q) (solve_none R C q ws ss u l r (has_no ws l 9 (left_not 9 t)) (has_no ws r 9 (right_not 9 k))) ∙ fail_on (store ws ss u) q;
+            fact = tt;
+          }

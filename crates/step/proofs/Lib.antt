@@ -1,4 +1,4 @@
-pub mod Said  -- answers of a step, one after another
+pub mod Said  -- answers of a step
 pub mod Expanding  -- step 1
 pub mod Choosing  -- what two sides ask for is the rule's step
 pub mod Arguments  -- step 3

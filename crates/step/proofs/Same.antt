@@ -6,24 +6,22 @@ use mathlib.Core.Bool.{Bool, true, false}
 use native.Mathlib.Omega.{arith}
 use lib.ListN.{length, length-map}
 use lib.Dec.{eqb}
-use Rattle.store.specs.declared.Walked.{Walked}
+use Rattle.std.specs.Prelude.{Result, Ok, Err}
+use Rattle.rules.specs.declared.Failure.{Failure}
+use Rattle.narrow.specs.declared.Narrowed.{Narrowed}
 use Rattle.table.specs.declared.Record.{Record}
 use Rattle.table.specs.Reading.{IsRecord}
 use Rattle.places.specs.declared.Map.{Map}
-use Rattle.queue.specs.declared.Ring.{Ring}
-use Rattle.step.specs.declared.Step.{Step}
-use Rattle.step.specs.declared.Step.TheVariants.{Done}
 use Rattle.rules.specs.Words.{field_a, arguments, variables}
 use Rattle.rules.specs.Walk.{narrow}
 use Rattle.rules.specs.Machine.{agreeing, same_hole}
+use Rattle.rules.specs.Store.{◌>>=◌}
 use Rattle.store.specs.Said.{store, shown, Does²}
 use Rattle.places.specs.Maps.{map_of, side}
 use Rattle.places.specs.Agree.{Comparing, Agrees}
-use Rattle.narrow.specs.Narrowing.{Narrowing}
+use Rattle.narrow.specs.Narrowing.{rooted, Narrowing}
 use Rattle.narrow.specs.NarrowingLaws.{narrows}
 use Rattle.rewrite.specs.PartsLaws.{term_read, counts_of}
-use Rattle.step.specs.Said.{ThenFinishes}
-use Rattle.step.proofs.Said.{quiet_done}
 use Rattle.step.specs.Same.{Occurrences, Agreed, SameReady, SameDone}
 
 module _ {ws : List ℕ} {l r : ℕ} (x y : Record) (e : IsRecord ws l x) (e₁ : IsRecord ws r y) where
@@ -32,7 +30,7 @@ module _ {ws : List ℕ} {l r : ℕ} (x y : Record) (e : IsRecord ws l x) (e₁ 
 
   pub agreed : (m : Map) → Agrees ws x.b y.b m → Agreed ws l r m
   unfolding variables arguments
-  agreed m a = record { run = rw (← e.b_is, ← e₁.b_is) a.run; len = rw (← e.b_is) a.len; whole = a.whole }
+  agreed m a = record { run = rw (← e.b_is, ← e₁.b_is) a.run; len = rw (← e.b_is) a.len }
 
 module _ {R n : ℕ} {ws ss : List ℕ} {used l r : ℕ} where
   pub same_read : SameReady R n ws ss used l r → 4 * l + 3 < length ws
@@ -51,20 +49,26 @@ module _ {R n : ℕ} {ws ss : List ℕ} {used l r : ℕ} where
       }
 
   pub same_narrows : (x : Record) (kept : Map) → IsRecord ws l x → SameReady R n ws ss used l r → Agreed ws l r kept → Narrowing ws ss n used R x.a kept
-  same_narrows x kept e h a = narrows R n h.home ws ss used 0 l h.fine h.left x e h.nine_left kept a.whole (h.arity ∙ sym a.len)
+  same_narrows x kept e h a = narrows R n h.home ws ss used 0 l h.fine h.left x e h.nine_left kept (h.arity ∙ sym a.len)
 
-module _ (R n : ℕ) (g : Ring) (ws ss : List ℕ) (used l r : ℕ) (kept : Map) (a : Agreed ws l r kept) (b : Bool) (p : b ≡ eqb (length (map_of false kept)) kept.len) where
+module _ (R n : ℕ) (ws ss : List ℕ) (used l r : ℕ) (kept : Map) (a : Agreed ws l r kept) (b : Bool) (p : b ≡ eqb (length (map_of false kept)) kept.len) where
   tested : eqb (length (agreeing 0 (variables ws l) (variables ws r))) (length (variables ws l)) ≡ b
   unfolding variables arguments
   tested = rw (← a.run) (simp length-map (rw (← a.len) (sym p)))
 
-  pub same_all : b ≡ true → SameDone g R l r ws ss used ws ss (Done g used)
+  pub same_all : b ≡ true → SameDone R l r ws ss used ws ss (Ok used)
   unfolding same_hole
-  same_all q = record { said = λ v cap. rw (tested ∙ q, same_hole); quiet = quiet_done g used }
+  same_all q = record { said = λ v. rw (tested ∙ q, same_hole) }
 
-  pub same_some : (x : Record) (ws₁ ss₁ : List ℕ) (w : Walked) (out : Step) → IsRecord ws l x → b ≡ false → Does² n (narrow R x.a (side true (map_of false kept))) ws ss used ws₁ ss₁ w → ThenFinishes g w out
-      → SameDone g R l r ws ss used ws₁ ss₁ out
-  unfolding same_hole side
-  same_some x ws₁ ss₁ w out e q d f =
-      let d₁ : narrow R (field_a ws l) (agreeing 0 (variables ws l) (variables ws r)) (store ws ss used) ≡ shown ws₁ ss₁ w = rw (← a.run, ← e.a_is) d.run in
-      record { said = λ v cap. rw (tested ∙ q, same_hole, d₁) (f.said ws₁ ss₁ v cap); quiet = f.quiet }
+  module _ (x : Record) (ws₁ ss₁ : List ℕ) (y : Result Narrowed Failure) (e : IsRecord ws l x) (q : b ≡ false) (d : Does² n (narrow R x.a (side true (map_of false kept))) ws ss used ws₁ ss₁ (rooted y)) where
+    narrowed : narrow R (field_a ws l) (agreeing 0 (variables ws l) (variables ws r)) (store ws ss used) ≡ shown ws₁ ss₁ (rooted y)
+    unfolding side
+    narrowed = rw (← a.run, ← e.a_is) d.run
+
+    pub same_fails : (f : Failure) → y ≡ Err f → SameDone R l r ws ss used ws₁ ss₁ (Err f)
+    unfolding same_hole ◌>>=◌
+    same_fails f z = record { said = λ v. rw (tested ∙ q, same_hole, narrowed, z) }
+
+    pub same_some : (w : Narrowed) → y ≡ Ok w → SameDone R l r ws ss used ws₁ ss₁ (Ok w.used)
+    unfolding same_hole ◌>>=◌
+    same_some w z = record { said = λ v. rw (tested ∙ q, same_hole, narrowed, z) }

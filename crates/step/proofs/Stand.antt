@@ -1,42 +1,44 @@
 -- What each of the steps 2 to 5 asks holds of the pair in hand.
 use Prim.Native.Nat.{ℕ}
-use mathlib.Core.Path.{◌≡◌, sym, ap, ◌∙◌}
+use mathlib.Core.Path.{◌≡◌, refl, sym, ap, ◌∙◌}
 use mathlib.Core.List.{List}
 use native.Mathlib.Omega.{arith}
 use lib.ListN.{length-map}
 use Rattle.rules.specs.declared.Failure.TheVariants.{Clash as Clashes}
-use Rattle.store.specs.declared.Walked.{Walked}
+use Rattle.std.specs.Prelude.{Result, Ok, Err}
+use Rattle.rules.specs.declared.Failure.{Failure}
+use Rattle.store.specs.declared.Written.{Written}
+use Rattle.queue.specs.declared.Pair.{Pair}
 use Rattle.queue.specs.declared.Ring.{Ring}
-use Rattle.step.specs.declared.Step.{Step}
-use Rattle.step.specs.declared.Step.TheVariants.{On, Failed as Fell}
+use Rattle.step.specs.declared.Step.TheVariants.{On, Done}
 use Rattle.step.specs.declared.Meeting.{Meeting}
 use Rattle.step.specs.declared.Meeting.TheVariants.{Bodies, Arguments, SameHole, Solve, Clash}
 use Rattle.rules.specs.Words.{tag, arguments, variables, HA}
-use Rattle.rules.specs.Store.{fail}
+use Rattle.rules.specs.Store.{fail, ◌>>=◌}
 use Rattle.rules.specs.Walk.{assign}
 use Rattle.rules.specs.Machine.{meet}
 use Rattle.invariants.specs.Floor.{Sub, Fine}
-use Rattle.store.specs.Said.{store, Does²}
+use Rattle.store.specs.Said.{Answer as Written_answer, store, Does²}
 use Rattle.rewrite.specs.PartsLaws.{term_read, counts_of}
 use Rattle.walk.specs.Assign.{Assigning}
 use Rattle.promise.proofs.TermKnown.{known-arity}
 use Rattle.promise.proofs.SideKnown.{side_walks}
 use Rattle.promise.proofs.Known.{known-left, known_right, same_arguments, same_holes}
-use Rattle.queue.specs.Ring.{view}
-use Rattle.queue.specs.Arguments.{Joining}
-use Rattle.step.specs.Said.{Steps, ThenFinishes}
-use Rattle.step.proofs.Said.{quiet_rings, failed_rings, on_rings}
+use Rattle.queue.specs.Ring.{view, Queued}
+use Rattle.queue.specs.Arguments.{pairs_of, Joining}
+use Rattle.step.specs.Said.{Answer, Steps}
+use Rattle.step.proofs.Said.{failed_rings, done_rings, on_rings}
+use Rattle.step.proofs.Arguments.{Argues, argues_full, argues_joins}
 use Rattle.step.specs.Meets.{Terms, MeetsAs, Sides, in_order, turned, FactOf, meet_as}
-use Rattle.step.specs.Arguments.{Argues}
 use Rattle.step.specs.Same.{SameReady, SameDone}
 use Rattle.step.specs.Stand.{Stood}
 
-pub fine_of : (R n : ℕ) (ws ss : List ℕ) (used : ℕ) (q : List ℕ) (cap : ℕ) (g : Ring) (l r : ℕ) (h : Stood R n ws ss used q cap g l r) → Fine R n h.home (store ws ss used)
-fine_of R n ws ss used q cap g l r h = h.running.fine (h.running.some (omega arith))
+pub fine_of : (R n : ℕ) (ws ss : List ℕ) (used : ℕ) (q : List ℕ) (g : Ring) (l r : ℕ) (h : Stood R n ws ss used q g l r) → Fine R n h.home (store ws ss used)
+fine_of R n ws ss used q g l r h = h.running.fine (h.running.some (omega arith))
 
-module _ (R n : ℕ) (ws ss : List ℕ) (used : ℕ) (q : List ℕ) (cap : ℕ) (g : Ring) (l r : ℕ) (h : Stood R n ws ss used q cap g l r) where
+module _ (R n : ℕ) (ws ss : List ℕ) (used : ℕ) (q : List ℕ) (g : Ring) (l r : ℕ) (h : Stood R n ws ss used q g l r) where
   fine : Fine R n h.home (store ws ss used)
-  fine = fine_of R n ws ss used q cap g l r h
+  fine = fine_of R n ws ss used q g l r h
 
   left : Sub ws h.home 0 used l
   left = h.running.sides.0.left
@@ -49,24 +51,24 @@ module _ (R n : ℕ) (ws ss : List ℕ) (used : ℕ) (q : List ℕ) (cap : ℕ) 
       record { inside_left = term_read R n h.home ws ss used 0 l fine left; inside_right = term_read R n h.home ws ss used 0 r fine right; left = left.term; right = right.term }
 
   module _ (k : Meeting) (m : MeetsAs ws l r k) where
-    abbrev Met : List ℕ → List ℕ → List ℕ → Step → Type 0
-    Met ws₁ ss₁ q₁ x = Steps cap (meet R cap (view q cap g) l r) ws ss used q ws₁ ss₁ q₁ x
+    abbrev Met : List ℕ → List ℕ → List ℕ → Answer → Type 0
+    Met ws₁ ss₁ q₁ x = Steps g.cap (meet R g.cap (view q g) l r) ws ss used q ws₁ ss₁ q₁ x
 
-    meets_so : (k₁ : Meeting) → k ≡ k₁ → meet R cap (view q cap g) l r (store ws ss used) ≡ meet_as k₁ R cap (view q cap g) l r (store ws ss used)
-    meets_so k₁ e = m.run R cap (view q cap g) ss used ∙ ap (λ (j : Meeting). meet_as j R cap (view q cap g) l r (store ws ss used)) e
+    meets_so : (k₁ : Meeting) → k ≡ k₁ → meet R g.cap (view q g) l r (store ws ss used) ≡ meet_as k₁ R g.cap (view q g) l r (store ws ss used)
+    meets_so k₁ e = m.run R g.cap (view q g) ss used ∙ ap (λ (j : Meeting). meet_as j R g.cap (view q g) l r (store ws ss used)) e
 
     known : (k₁ : Meeting) → k ≡ k₁ → FactOf ws l r k₁
     known k₁ e = rw e at m.fact
 
     -- 2
-    pub met_bodies : (a b : ℕ) → k ≡ Bodies a b → Met ws ss q (On a b used)
-    met_bodies a b e = record { said = meets_so (Bodies a b) e; rings = on_rings cap q a b used }
+    pub met_bodies : (p : Pair) → k ≡ Bodies p → Met ws ss q (Ok (On p used))
+    met_bodies p e = record { said = meets_so (Bodies p) e; rings = on_rings g.cap q p used }
 
     -- 3
-    pub stood_argues : (a b : ℕ) → k ≡ Arguments a b → Joining ws q cap g a b
+    pub stood_argues : (p : Pair) → k ≡ Arguments p → Joining ws q g p.left p.right
     unfolding arguments
-    stood_argues a b e =
-        let f : FactOf ws l r (Arguments a b) = known (Arguments a b) e in
+    stood_argues p e =
+        let f : FactOf ws l r (Arguments p) = known (Arguments p) e in
         let z = f.2 in
         let lo = f.0 in
         rw (f.4, f.5)
@@ -79,8 +81,15 @@ module _ (R n : ℕ) (ws ss : List ℕ) (used : ℕ) (q : List ℕ) (cap : ℕ) 
           fine = h.ring;
         })
 
-    pub met_arguments : (a b : ℕ) (q₁ : List ℕ) (x : Step) → k ≡ Arguments a b → Argues ws q cap g used a b q₁ x → Met ws ss q₁ x
-    met_arguments a b q₁ x e p = record { said = meets_so (Arguments a b) e ∙ p.said ss; rings = p.rings }
+    met-argues : (p : Pair) (q₁ : List ℕ) (x : Answer) → k ≡ Arguments p → Argues q g (pairs_of ws p.left p.right) used q₁ x → Met ws ss q₁ x
+    met-argues p q₁ x e a = record { said = meets_so (Arguments p) e ∙ a.said ws ss; rings = a.rings }
+
+    module _ (p : Pair) (q₁ : List ℕ) (y : Result Ring Failure) (e : k ≡ Arguments p) (j : Queued q g (pairs_of ws p.left p.right) q₁ y) where
+      pub met_full : (f : Failure) → y ≡ Err f → Met ws ss q₁ (Err f)
+      met_full f z = met-argues p q₁ (Err f) e (argues_full q g (pairs_of ws p.left p.right) used q₁ y j f z)
+
+      pub met_joins : (g₁ : Ring) → y ≡ Ok g₁ → Met ws ss q₁ (Ok (Done g₁ used))
+      met_joins g₁ z = met-argues p q₁ (Ok (Done g₁ used)) e (argues_joins q g (pairs_of ws p.left p.right) used q₁ y j g₁ z)
 
     -- 4
     pub stood_same : k ≡ SameHole → SameReady R n ws ss used l r
@@ -98,8 +107,12 @@ module _ (R n : ℕ) (ws ss : List ℕ) (used : ℕ) (q : List ℕ) (cap : ℕ) 
           arity = sym (simp length-map at (known-arity (side_walks (known-left h.known)) f.0));
         }
 
-    pub met_same : (ws₁ ss₁ : List ℕ) (x : Step) → k ≡ SameHole → SameDone g R l r ws ss used ws₁ ss₁ x → Met ws₁ ss₁ q x
-    met_same ws₁ ss₁ x e p = record { said = meets_so SameHole e ∙ p.said q cap; rings = quiet_rings cap q g x h.ring p.quiet }
+    module _ (ws₁ ss₁ : List ℕ) (y : Result ℕ Failure) (e : k ≡ SameHole) (d : SameDone R l r ws ss used ws₁ ss₁ y) where
+      pub met_lost : (f : Failure) → y ≡ Err f → Met ws₁ ss₁ q (Err f)
+      met_lost f z = record { said = meets_so SameHole e ∙ rw (d.said (view q g), z); rings = failed_rings g.cap q q f }
+
+      pub met_same : (u : ℕ) → y ≡ Ok u → Met ws₁ ss₁ q (Ok (Done g u))
+      met_same u z = record { said = meets_so SameHole e ∙ rw (d.said (view q g), z); rings = done_rings g.cap q q g u h.ring refl }
 
     -- 5
     pub stood_solve : (a b : ℕ) → k ≡ Solve a b → Assigning R n ws ss used a b
@@ -111,9 +124,15 @@ module _ (R n : ℕ) (ws ss : List ℕ) (used : ℕ) (q : List ℕ) (cap : ℕ) 
         go t (turned p o) =
             rw (p, o) (record { home = h.home; fine = fine; left = right; occ = rw p at t; right = left; scope = _; known = side_walks (known-left h.known) })
 
-    pub met_solve : (a b : ℕ) (ws₁ ss₁ : List ℕ) (w : Walked) (x : Step) → k ≡ Solve a b → Does² n (assign R a b) ws ss used ws₁ ss₁ w → ThenFinishes g w x → Met ws₁ ss₁ q x
-    met_solve a b ws₁ ss₁ w x e p f = record { said = meets_so (Solve a b) e ∙ rw p.run (f.said ws₁ ss₁ q cap); rings = quiet_rings cap q g x h.ring f.quiet }
+    module _ (a b : ℕ) (ws₁ ss₁ : List ℕ) (y : Written_answer) (e : k ≡ Solve a b) (d : Does² n (assign R a b) ws ss used ws₁ ss₁ y) where
+      pub met_unsolved : (f : Failure) → y ≡ Err f → Met ws₁ ss₁ q (Err f)
+      unfolding ◌>>=◌
+      met_unsolved f z = record { said = meets_so (Solve a b) e ∙ rw (d.run, z); rings = failed_rings g.cap q q f }
 
-    pub met_clash : k ≡ Clash → Met ws ss q (Fell Clashes)
+      pub met_solve : (w : Written) → y ≡ Ok w → Met ws₁ ss₁ q (Ok (Done g w.used))
+      unfolding ◌>>=◌
+      met_solve w z = record { said = meets_so (Solve a b) e ∙ rw (d.run, z); rings = done_rings g.cap q q g w.used h.ring refl }
+
+    pub met_clash : k ≡ Clash → Met ws ss q (Err Clashes)
     unfolding fail
-    met_clash e = record { said = meets_so Clash e; rings = failed_rings cap q q Clashes }
+    met_clash e = record { said = meets_so Clash e; rings = failed_rings g.cap q q Clashes }

@@ -1,17 +1,15 @@
 -- What step 4 asks and says.
-use Rattle.std.specs.Prelude.{ℕ, ◌+◌, ◌*◌, ◌<◌, ◌≡◌, List, false, length}
+use Rattle.std.specs.Prelude.{ℕ, ◌+◌, ◌*◌, ◌<◌, ◌≡◌, List, false, length, Result, Ok, Err}
 use Rattle.places.specs.declared.Map.{Map}
-use Rattle.queue.specs.declared.Ring.{Ring}
-use Rattle.step.specs.declared.Step.{Step}
+use Rattle.rules.specs.declared.Failure.{Failure}
 use Rattle.rules.specs.Words.{tag, field_a, field_b, elements, variables, HA}
 use Rattle.rules.specs.Map.{sources}
-use Rattle.rules.specs.Machine.{agreeing, same_hole}
+use Rattle.rules.specs.Store.{Out, goes, fails}
+use Rattle.rules.specs.Machine.{Pair as Waiting, Next, done, agreeing, same_hole}
 use Rattle.invariants.specs.Floor.{Sub, Fine}
 use Rattle.store.specs.Said.{store}
-use Rattle.places.specs.Maps.{map_of, Whole}
+use Rattle.places.specs.Maps.{map_of}
 use Rattle.places.specs.Lists.{Counts}
-use Rattle.queue.specs.Ring.{view}
-use Rattle.step.specs.Said.{stepped, Quiet}
 
 -- two occurrences whose arguments can be read
 pub record Occurrences (ws : List ℕ) (l r : ℕ) : Type 0 where
@@ -25,7 +23,6 @@ pub record Occurrences (ws : List ℕ) (l r : ℕ) : Type 0 where
 pub record Agreed (ws : List ℕ) (l r : ℕ) (m : Map) : Type 0 where
   pub run : sources (map_of false m) ≡ agreeing 0 (variables ws l) (variables ws r)
   pub len : m.len ≡ length (elements ws (field_b ws l))
-  pub whole : Whole m
 
 -- what step 4 asks
 pub record SameReady (R n : ℕ) (ws ss : List ℕ) (used l r : ℕ) : Type 0 where
@@ -38,7 +35,11 @@ pub record SameReady (R n : ℕ) (ws ss : List ℕ) (used l r : ℕ) : Type 0 wh
   pub many : length (elements ws (field_b ws l)) ≡ length (elements ws (field_b ws r))
   pub arity : length (elements ws (field_a ws (field_a ws l))) ≡ length (elements ws (field_b ws l))
 
+-- the records used, and q waits, or the failure
+abbrev pub used_up : List Waiting → List ℕ → List ℕ → Result ℕ Failure → Out Next
+used_up q ws ss (Ok u) = goes (store ws ss u) (done q)
+used_up q ws ss (Err e) = fails ws ss e
+
 -- step 4 answers so, whatever waits
-pub record SameDone (g : Ring) (R l r : ℕ) (ws ss : List ℕ) (used : ℕ) (ws₁ ss₁ : List ℕ) (x : Step) : Type 0 where
-  pub said : (q : List ℕ) (cap : ℕ) → same_hole R (view q cap g) l r (store ws ss used) ≡ stepped cap ws₁ ss₁ q x
-  pub quiet : Quiet g x
+pub record SameDone (R l r : ℕ) (ws ss : List ℕ) (used : ℕ) (ws₁ ss₁ : List ℕ) (x : Result ℕ Failure) : Type 0 where
+  pub said : (q : List Waiting) → same_hole R q l r (store ws ss used) ≡ used_up q ws₁ ss₁ x

@@ -7,8 +7,8 @@ use Rattle.promise.specs.Known.{Known}
 use Rattle.queue.specs.Ring.{view, Fine as Ringed}
 
 -- the pair (l, r) is in hand while those of the ring wait
-pub record Stood (R n : ℕ) (ws ss : List ℕ) (used : ℕ) (q : List ℕ) (cap : ℕ) (g : Ring) (l r : ℕ) : Type 0 where
+pub record Stood (R n : ℕ) (ws ss : List ℕ) (used : ℕ) (q : List ℕ) (g : Ring) (l r : ℕ) : Type 0 where
   pub home : ℕ → ℕ
-  pub running : Running R cap n home (store ws ss used) ((l, r) ∷ view q cap g)
-  pub known : Known R (store ws ss used) ((l, r) ∷ view q cap g)
-  pub ring : Ringed q cap g
+  pub running : Running R g.cap n home (store ws ss used) ((l, r) ∷ view q g)
+  pub known : Known R (store ws ss used) ((l, r) ∷ view q g)
+  pub ring : Ringed q g

@@ -1,27 +1,25 @@
 -- Variables and occurrences written from a map.
 use Prim.Native.Nat.{ℕ, ◌+◌, ◌*◌, ◌<◌, ◌≤◌}
-use mathlib.Core.Path.{◌≡◌, refl, ap, ◌∙◌}
+use mathlib.Core.Path.{◌≡◌, refl, sym, ap, ◌∙◌}
+use lib.Seq.{get_or-take}
 use mathlib.Core.List.{List, [], ◌∷◌, ◌++◌}
 use mathlib.Core.Bool.{Bool, true, false}
 use native.Mathlib.Omega.{arith}
-use native.Mathlib.Numerals.{add-one}
-use lib.ListN.{length, get_or, take, drop, set, length-set, replicate}
-use lib.Seq.{take-suc-set}
+use lib.ListN.{length, get_or, drop, length-append}
 use Rattle.rules.specs.declared.Failure.{Failure}
-use Rattle.store.specs.declared.Walked.{Walked}
-use Rattle.store.specs.declared.Walked.TheVariants.{Root, Failed}
+use Rattle.store.specs.declared.Written.{Written}
 use Rattle.places.specs.declared.Map.{Map}
 use Rattle.rules.specs.Words.{NONE, CE, VA}
 use Rattle.rules.specs.Store.{Store, ◌>>=◌, push, push_cells, push_variables, push_occurrence}
 use Rattle.rules.specs.Map.{Map as Pairs}
 use Rattle.rules.specs.Rewrite.{Writer, write_all}
-use Rattle.store.specs.Said.{store, Does, Then, over}
-use Rattle.store.specs.SaidLaws.{since_failed}
-use Rattle.places.specs.Maps.{leads, places_of, map_of, Whole, side}
-use Rattle.places.specs.MapsLaws.{leads_none, leads_some, places_more, places_end}
+use Rattle.store.specs.Said.{Answer, store, Does, over}
+use Rattle.store.specs.SaidLaws.{since_failed, bind_stops, bind_goes}
+use Rattle.places.specs.Maps.{leads, places_of, map_of, side}
+use Rattle.places.specs.MapsLaws.{leads_none, leads_some, places_length, places_more, places_end}
 use Rattle.store.specs.EachLaws.{write_rest, bind_same, writes_all, rest_end, rest_stops, rest_goes}
-use Rattle.store.specs.Cells.{Celling}
-use Rattle.store.specs.Writing.{Writing, variable_of}
+use Rattle.std.specs.Prelude.{Ok, Err}
+use Rattle.store.specs.Writing.{variable_of}
 
 pub variable_from : (b : Bool) (j w : ℕ) → b ≡ true → variable_of b j w ≡ j
 unfolding variable_of
@@ -51,87 +49,92 @@ variables_are R [] s = refl
 variables_are R (v ∷ vs) s = bind_same (push R VA v NONE s) _ _ (λ (s₁, x). ap (◌>>= over R CE x) (variables_are R vs s₁))
 
 -- the variables of the first i positions are written, and noted
-pub record Named (R n : ℕ) (b : Bool) (m : Map) (ws₀ : List ℕ) (u₀ : ℕ) (ws noted : List ℕ) (k u i : ℕ) : Type 0 where
+pub record Named (R n : ℕ) (b : Bool) (m : Map) (ws₀ : List ℕ) (u₀ : ℕ) (ws ys : List ℕ) (u i : ℕ) : Type 0 where
   pub kept : length ws ≡ length ws₀
   pub room : 4 * R ≤ length ws
   pub since : n ≤ u
-  pub all : length noted ≡ 16
-  pub few : k ≤ i
+  pub few : length ys ≤ i
   pub within : i ≤ m.len
   pub same : (ss : List ℕ)
-      → push_variables R (side b (map_of false m)) (store ws₀ ss u₀) ≡ write_rest (bare_of R) R [] 0 (take k noted) (side b (leads i (drop i (places_of m)))) (store ws ss u)
+      → push_variables R (side b (map_of false m)) (store ws₀ ss u₀) ≡ write_rest (bare_of R) R [] 0 ys (side b (leads i (drop i (places_of m)))) (store ws ss u)
 
-pub named-first : (R n : ℕ) (b : Bool) (m : Map) (ws : List ℕ) (u : ℕ) → Writing ws n u R m → Named R n b m ws u ws (replicate 16 0) 0 u 0
+pub named-first : (R n : ℕ) (b : Bool) (m : Map) (ws : List ℕ) (u : ℕ) (ys : List ℕ) → (4 * R ≤ length ws) × (n ≤ u) → ys ≡ [] → Named R n b m ws u ws ys u 0
 unfolding map_of
-named-first R n b m ws u h =
-    record {
+named-first R n b m ws u ys h e =
+    rw e (record {
       kept = refl;
-      room = h.room;
-      since = h.since;
-      all = refl;
+      room = h.0;
+      since = h.1;
       few = omega arith;
       within = omega arith;
       same = λ ss. variables_are R (side b (leads 0 (places_of m))) (store ws ss u) ∙ writes_all (bare_of R) R [] 0 (side b (leads 0 (places_of m))) (store ws ss u);
-    }
+    })
 
-module _ (R n : ℕ) (b : Bool) (m : Map) (ws₀ : List ℕ) (u₀ : ℕ) (ws noted : List ℕ) (k u i : ℕ) (p : Whole m) (h : Named R n b m ws₀ u₀ ws noted k u i) where
-  pub named-cells : Celling ws n u R noted k
-  named-cells = let a = h.all in let f = h.few in let w = h.within in let l = p.few in record { room = h.room; since = h.since; few = omega arith }
-
-  pub named_end : (ws₁ : List ℕ) (x : Walked) → m.len ≤ i → Does n (push_cells R (take k noted)) ws u ws₁ x → Does n (push_variables R (side b (map_of false m))) ws₀ u₀ ws₁ x
+module _ (R n : ℕ) (b : Bool) (m : Map) (ws₀ : List ℕ) (u₀ : ℕ) (ws ys : List ℕ) (u i : ℕ) (h : Named R n b m ws₀ u₀ ws ys u i) where
+  pub named_end : (ws₁ zs : List ℕ) (x : Answer) → length (places_of m) ≤ i → zs ≡ ys → Does n (push_cells R zs) ws u ws₁ x → Does n (push_variables R (side b (map_of false m))) ws₀ u₀ ws₁ x
   unfolding leads
-  named_end ws₁ x g q =
-      let z : side b (leads i (drop i (places_of m))) ≡ [] = rw (places_end m p i g) (side_nil b) in
-      record { run = λ ss. h.same ss ∙ rw z (rest_end (bare_of R) R [] 0 (take k noted) (store ws ss u)) ∙ q.run ss; grown = q.grown }
+  named_end ws₁ zs x g e q =
+      let l = places_length m in
+      let k : m.len ≤ i = omega arith in
+      let z : side b (leads i (drop i (places_of m))) ≡ [] = rw (places_end m i k) (side_nil b) in
+      record { run = λ ss. h.same ss ∙ rw z (rest_end (bare_of R) R [] 0 ys (store ws ss u)) ∙ (rw e at q.run ss); grown = q.grown }
 
-  module _ (g : i < m.len) where
-    pub named_slot : k < 16
-    named_slot = let f = p.few in let w = h.few in omega arith
+  module _ (g : i < length (places_of m)) where
+    within : i < m.len
+    within = let l = places_length m in omega arith
 
-    pub named_skip : get_or m.places i 0 ≡ NONE → Named R n b m ws₀ u₀ ws noted k u (i + 1)
+    place : get_or (places_of m) i 0 ≡ get_or m.places i 0
+    place = get_or-take m.len m.places i 0 within
+
+    pub named_slot : length ys < 16
+    named_slot = let f = m.few in let w = h.few in let l = within in omega arith
+
+    pub named_skip : get_or (places_of m) i 0 ≡ NONE → Named R n b m ws₀ u₀ ws ys u (i + 1)
     named_skip e =
         let f = h.few in
-        let z : leads i (drop i (places_of m)) ≡ leads (i + 1) (drop (i + 1) (places_of m)) = rw (places_more m p i g) (leads_none i _ (drop (i + 1) (places_of m)) e) in
-        record { kept = h.kept; room = h.room; since = h.since; all = h.all; few = omega arith; within = omega arith; same = λ ss. rw (← z) (h.same ss) }
+        let z : leads i (drop i (places_of m)) ≡ leads (i + 1) (drop (i + 1) (places_of m)) = rw (places_more m i within) (leads_none i _ (drop (i + 1) (places_of m)) (sym place ∙ e)) in
+        let l = within in
+        record { kept = h.kept; room = h.room; since = h.since; few = omega arith; within = omega arith; same = λ ss. rw (← z) (h.same ss) }
 
-    module _ (e : get_or m.places i 0 ≡ NONE → ⊥) (v : ℕ) (is : variable_of b i (get_or m.places i 0) ≡ v) where
+    module _ (e : get_or (places_of m) i 0 ≡ NONE → ⊥) (v : ℕ) (is : variable_of b i (get_or (places_of m) i 0) ≡ v) where
       next : side b (leads i (drop i (places_of m))) ≡ v ∷ side b (leads (i + 1) (drop (i + 1) (places_of m)))
       next =
-          rw (places_more m p i g, leads_some i (get_or m.places i 0) (drop (i + 1) (places_of m)) e, ← is)
-          (side_cons b i (get_or m.places i 0) (leads (i + 1) (drop (i + 1) (places_of m))))
+          rw (places_more m i within, ← place, leads_some i (get_or (places_of m) i 0) (drop (i + 1) (places_of m)) e, ← is)
+          (side_cons b i (get_or (places_of m) i 0) (leads (i + 1) (drop (i + 1) (places_of m))))
 
-      module _ (ws₁ : List ℕ) (x : Walked) (q : Does n (push R 8 v NONE) ws u ws₁ x) where
-        pub named_stops : (f : Failure) → x ≡ Failed f → Does n (push_variables R (side b (map_of false m))) ws₀ u₀ ws₁ (Failed f)
+      module _ (ws₁ : List ℕ) (x : Answer) (q : Does n (push R 8 v NONE) ws u ws₁ x) where
+        pub named_stops : (f : Failure) (y : Answer) → x ≡ Err f → y ≡ Err f → Does n (push_variables R (side b (map_of false m))) ws₀ u₀ ws₁ y
         unfolding bare_of
-        named_stops f z =
-            record {
-              run = λ ss. h.same ss ∙ rw next (rest_stops (bare_of R) R [] 0 (take k noted) v (side b (leads (i + 1) (drop (i + 1) (places_of m)))) (store ws ss u) ws₁ ss f (rw (q.run ss, z)));
+        named_stops f y z o =
+            rw o (record {
+              run = λ ss. h.same ss ∙ rw next (rest_stops (bare_of R) R [] 0 ys v (side b (leads (i + 1) (drop (i + 1) (places_of m)))) (store ws ss u) ws₁ ss f (rw (q.run ss, z)));
               grown = since_failed _ _;
-            }
+            })
 
-        pub named-takes : (r u₁ : ℕ) → x ≡ Root r u₁ → length ws₁ ≡ length ws → Named R n b m ws₀ u₀ ws₁ (set noted k r) (k + 1) u₁ (i + 1)
+        pub named-takes : (w : Written) (ys₁ : List ℕ) → x ≡ Ok w → length ws₁ ≡ length ws → ys₁ ≡ ys ++ w.root ∷ [] → Named R n b m ws₀ u₀ ws₁ ys₁ w.used (i + 1)
         unfolding bare_of
-        named-takes r u₁ z l =
-            let a = h.all in
+        named-takes w ys₁ z l t =
             let o = h.room in
             let f = h.few in
-            let s = named_slot in
-            let w : k < length noted = omega arith in
-            let t : take (k + 1) (set noted k r) ≡ take k noted ++ (r ∷ []) = rw (add-one k) (take-suc-set noted k r w) in
+            let g₁ = within in
+            let c : length ys₁ ≡ length ys + 1 = rw t (length-append ys (w.root ∷ [])) in
             record {
               kept = l ∙ h.kept;
               room = omega arith;
-              since = q.grown.since r u₁ z;
-              all = length-set noted k r ∙ a;
+              since = q.grown.since w z;
               few = omega arith;
               within = omega arith;
               same = λ ss. h.same ss
                   ∙ rw (next, t)
-                  (rest_goes (bare_of R) R [] 0 (take k noted) v (side b (leads (i + 1) (drop (i + 1) (places_of m)))) (store ws ss u) (store ws₁ ss u₁) r (rw (q.run ss, z)));
+                  (rest_goes (bare_of R) R [] 0 ys v (side b (leads (i + 1) (drop (i + 1) (places_of m)))) (store ws ss u) (store ws₁ ss w.used) w.root (rw (q.run ss, z)));
             }
 
 -- an occurrence
-pub occurrence_goes : (R n h : ℕ) (vs ws : List ℕ) (u : ℕ) (ws₁ : List ℕ) (x : Walked) (ws₂ : List ℕ) (y : Walked)
-    → Does n (push_variables R vs) ws u ws₁ x → Then n (over R 9 h) ws₁ x ws₂ y → Does n (push_occurrence R h vs) ws u ws₂ y
-unfolding push_occurrence
-occurrence_goes R n h vs ws u ws₁ x ws₂ y p q = record { run = λ ss. rw (p.run ss) (q.run ss); grown = q.grown }
+module _ (R n h : ℕ) (vs ws : List ℕ) (u : ℕ) (ws₁ : List ℕ) (x : Answer) (p : Does n (push_variables R vs) ws u ws₁ x) where
+  pub occurrence_stops : (e : Failure) (y : Answer) → x ≡ Err e → y ≡ Err e → Does n (push_occurrence R h vs) ws u ws₁ y
+  unfolding push_occurrence
+  occurrence_stops e y q r = bind_stops n (push_variables R vs) (over R 9 h) ws u ws₁ x p e y q r
+
+  pub occurrence_goes : (w : Written) (ws₂ : List ℕ) (y : Answer) → x ≡ Ok w → Does n (push R 9 h w.root) ws₁ w.used ws₂ y → Does n (push_occurrence R h vs) ws u ws₂ y
+  unfolding push_occurrence
+  occurrence_goes w ws₂ y q r = bind_goes n (push_variables R vs) (over R 9 h) ws u ws₁ x p w ws₂ y q r

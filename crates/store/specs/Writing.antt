@@ -1,13 +1,10 @@
--- What writing variables from a map asks.
+-- What writing asks.
 use Rattle.std.specs.Prelude.{ℕ, ◌*◌, ◌≤◌, List, Bool, true, false, length}
-use Rattle.places.specs.declared.Map.{Map}
-use Rattle.places.specs.Maps.{Whole}
+use Rattle.store.specs.declared.Part.{Part}
 
--- what writing from a map asks
-pub record Writing (ws : List ℕ) (n u R : ℕ) (m : Map) : Type 0 where
-  pub room : 4 * R ≤ length ws
-  pub since : n ≤ u
-  pub whole : Whole m
+-- what writing asks: the part lies in the table, and its first records are used
+abbrev pub Writing : List ℕ → Part → ℕ → Type 0
+Writing ws p u = (4 * p.room ≤ length ws) × (p.n ≤ u)
 
 -- one of a pair's two numbers
 unfoldable pub variable_of : Bool → ℕ → ℕ → ℕ

@@ -1,25 +1,36 @@
 // What is written into lent words: records appended through the part that starts at record n, with the answer; words set, records cleared.
+//
+// Table and solutions are two slices in every function of the machine, and no struct: each function that takes a struct with a `&mut` in it has to
+// promise that it still holds the same slice (its ghost name), a clause more in each contract.
 #![tactic(auto)]
 
-ghost use Rattle.std.specs.Prelude.{◌≡◌, false, ◌+◌, ◌*◌, ◌<◌, ◌≤◌, length, get_or, replicate, take};
+ghost use Rattle.std.specs.Prelude.{◌≡◌, false, ◌+◌, ◌*◌, ◌<◌, ◌≤◌, length};
 ghost use Rattle.rules.specs.Store.{put as put_at, push as pushOf, push_cells, push_variables, push_occurrence};
 ghost use Rattle.places.specs.Maps.{map_of, side};
 ghost use Rattle.rules.specs.Solve.{filled};
-ghost use Rattle.store.specs.Said.{Since, Does, Then, over, under};
-ghost use Rattle.store.specs.Cells.{Celling};
+ghost use Rattle.store.specs.Said.{Does};
+ghost use Rattle.store.specs.Solutions.{solution_in};
 ghost use Rattle.store.specs.Writing.{Writing, variable_of};
 ghost use Rattle.store.specs.Clearing.{Clearing, Cleared};
 ghost use Rattle.store.specs.Unused.{Unused};
 
+use arrayvec::ArrayVec;
 use places::Map;
 use rules::Failure;
 use table::{CE, HA, Hole, NONE, VA, Variable};
 
-// What a part of the machine answers: the record that it wrote and the records used, or the failure.
+// The part of the table that is written: records n to room - 1.
 #[derive(Clone, Copy)]
-pub enum Walked {
-    Root { root: u32, used: u32 },
-    Failed(Failure),
+pub struct Part {
+    pub n: u32,
+    pub room: u32,
+}
+
+// What a part of the machine wrote: its last record, and the records used then.
+#[derive(Clone, Copy)]
+pub struct Written {
+    pub root: u32,
+    pub used: u32,
 }
 
 // Four words at the k-th record of a part.
@@ -34,87 +45,60 @@ fn put(part: &mut [u32], k: usize, tag: u32, a: u32, b: u32)
     part[i + 3] = 0;
 }
 
-// A record is appended, in the part that starts at record n; table full is met at the first record that has no number.
-pub fn push(table: &mut [u32], n: u32, used: u32, room: u32, tag: u32, a: u32, b: u32) -> Walked
-    requires { (4 * room ≤ length table.old) × (n ≤ used) }
-    ensures { Does n (pushOf room tag a b) table.old used table.new result }
+// A record is appended; table full is met at the first record that has no number.
+pub fn push(
+    table: &mut [u32],
+    part: Part,
+    used: u32,
+    tag: u32,
+    a: u32,
+    b: u32,
+) -> Result<Written, Failure>
+    requires { Writing table.old part used }
+    ensures { Does part.n (pushOf part.room tag a b) table.old used table.new result }
 {
-    if used < room {
-        let from = 4 * (n as usize);
-        let k = (used - n) as usize;
-        put(&mut table[from..], k, tag, a, b);
-        Walked::Root {
-            root: used,
-            used: used + 1,
-        }
-    } else {
-        Walked::Failed(Failure::TableFull)
+    if used >= part.room {
+        return Err(Failure::TableFull);
     }
+    let from = 4 * (part.n as usize);
+    let k = (used - part.n) as usize;
+    put(&mut table[from..], k, tag, a, b);
+    Ok(Written {
+        root: used,
+        used: used + 1,
+    })
 }
 
-// A record whose b is what was written, or the failure.
-pub fn then_over(table: &mut [u32], n: u32, room: u32, tag: u32, a: u32, walked: Walked) -> Walked
-    requires { (4 * room ≤ length table.old) × Since n walked }
-    ensures { Then n (over room tag a) table.old walked table.new result }
-{
-    match walked {
-        Walked::Failed(e) => Walked::Failed(e),
-        Walked::Root { root, used } => push(table, n, used, room, tag, a, root),
-    }
-}
-
-// A record whose a is what was written, or the failure.
-pub fn then_under(table: &mut [u32], n: u32, room: u32, tag: u32, b: u32, walked: Walked) -> Walked
-    requires { (4 * room ≤ length table.old) × Since n walked }
-    ensures { Then n (under room tag b) table.old walked table.new result }
-{
-    match walked {
-        Walked::Failed(e) => Walked::Failed(e),
-        Walked::Root { root, used } => push(table, n, used, room, tag, root, b),
-    }
-}
-
-// The record of a hole's solution, or NONE.
-pub fn solution_of(solutions: &[u32], hole: Hole) -> u32
+// The record of a hole's solution.
+pub fn solution_of(solutions: &[u32], hole: Hole) -> Option<u32>
     requires { hole.0 < length solutions.now }
-    ensures { get_or solutions.now hole.0 4294967295 ≡ result }
+    ensures { solution_in solutions.now hole.0 ≡ result }
 {
-    let h = hole.0 as usize;
-    solutions[h]
+    let t = solutions[hole.0 as usize];
+    if t == NONE {
+        return None;
+    }
+    Some(t)
 }
 
-// Cells for the first k of the noted records, last first.
+// Cells for the noted records, last first.
 pub fn push_cells(
     table: &mut [u32],
-    n: u32,
+    part: Part,
     used: u32,
-    room: u32,
     noted: &[u32],
-    k: usize,
-) -> Walked
-    requires { Celling table.old n used room noted.now k }
-    ensures { Does n (push_cells room (take k noted.now)) table.old used table.new result }
+) -> Result<Written, Failure>
+    requires { Writing table.old part used }
+    ensures { Does part.n (push_cells part.room noted.now) table.old used table.new result }
 {
-    let mut i = k;
-    let mut list = NONE;
-    let mut taken = used;
-    while 0 < i {
-        i -= 1;
-        match push(table, n, taken, room, CE, noted[i], list) {
-            Walked::Failed(e) => return Walked::Failed(e),
-            Walked::Root { root, used: then } => {
-                list = root;
-                taken = then;
-            }
-        }
+    let mut cells = Written { root: NONE, used };
+    for &at in noted.iter().rev() {
+        cells = push(table, part, cells.used, CE, at, cells.root)?;
     }
-    Walked::Root {
-        root: list,
-        used: taken,
-    }
+    Ok(cells)
 }
 
-// The variable that stands for a position with a place: the position, or the place.
+// The variable that stands for a position with a place: the position, or the place. `froms` is the definition's `Bool`, as `above` is in `places`.
 fn variable(froms: bool, position: usize, place: u32) -> Variable
     requires { position < 16 }
     ensures { variable_of froms position place ≡ result.0 }
@@ -126,87 +110,73 @@ fn variable(froms: bool, position: usize, place: u32) -> Variable
 }
 
 // Bare variables for the positions that have a place, in order, then their cells from last to first.
-fn push_variables(table: &mut [u32], n: u32, used: u32, room: u32, map: Map, froms: bool) -> Walked
-    requires { Writing table.old n used room map }
-    ensures { Does n (push_variables room (side froms (map_of false map))) table.old used table.new result }
+fn push_variables(
+    table: &mut [u32],
+    part: Part,
+    used: u32,
+    map: Map,
+    froms: bool,
+) -> Result<Written, Failure>
+    requires { Writing table.old part used }
+    ensures { Does part.n (push_variables part.room (side froms (map_of false map))) table.old used table.new result }
 {
-    let mut noted = [0u32; 16];
-    let mut k = 0;
+    let mut noted = ArrayVec::<u32, 16>::new();
     let mut taken = used;
-    let len = map.len;
-    let mut i = 0;
-    while i < len {
-        let place = map.places[i];
-        let v = variable(froms, i, place);
-        i += 1;
+    for (i, &place) in map.places[..map.len].iter().enumerate() {
         if place == NONE {
             continue;
         }
-        match push(table, n, taken, room, VA, v.0, NONE) {
-            Walked::Failed(e) => return Walked::Failed(e),
-            Walked::Root { root, used: then } => {
-                noted[k] = root;
-                k += 1;
-                taken = then;
-            }
-        }
+        let v = variable(froms, i, place);
+        let written = push(table, part, taken, VA, v.0, NONE)?;
+        noted.push(written.root);
+        taken = written.used;
     }
-    push_cells(table, n, taken, room, &noted, k)
+    push_cells(table, part, taken, &noted)
 }
 
 // The hole applied to the variables that the map leads from, or to.
 pub fn push_occurrence(
     table: &mut [u32],
-    n: u32,
+    part: Part,
     used: u32,
-    room: u32,
     hole: Hole,
     map: Map,
     froms: bool,
-) -> Walked
-    requires { Writing table.old n used room map }
-    ensures { Does n (push_occurrence room hole.0 (side froms (map_of false map))) table.old used table.new result }
+) -> Result<Written, Failure>
+    requires { Writing table.old part used }
+    ensures { Does part.n (push_occurrence part.room hole.0 (side froms (map_of false map))) table.old used table.new result }
 {
-    let xs = push_variables(table, n, used, room, map, froms);
-    then_over(table, n, room, HA, hole.0, xs)
+    let xs = push_variables(table, part, used, map, froms)?;
+    push(table, part, xs.used, HA, hole.0, xs.root)
 }
 
-// Every word becomes x.
-fn fill_all(words: &mut [u32], x: u32)
-    ensures { replicate (length words.old) x ≡ words.new }
-{
-    for i in 0..words.len() {
-        words[i] = x;
-    }
-}
-
-// So many words from one on become x, the others stay: the part is lent on.
+// So many words from one on become x, the others stay.
 pub fn fill(words: &mut [u32], from: usize, count: usize, x: u32)
     requires { from + count ≤ length words.old }
     ensures { filled from count x words.old ≡ words.new }
 {
-    let end = from + count;
-    fill_all(&mut words[from..end], x);
+    words[from..from + count].fill(x);
 }
 
-// Records n to room - 1 all zero, the first `room` solution words NONE: the part of the table that starts at record n is lent on.
-pub fn clear(table: &mut [u32], solutions: &mut [u32], n: u32, room: u32)
-    requires { Clearing n room table.old solutions.old }
-    ensures { Cleared n room table.old solutions.old table.new solutions.new }
+// The records of the part all zero, the first `room` solution words NONE.
+pub fn clear(table: &mut [u32], solutions: &mut [u32], part: Part)
+    requires { Clearing part.n part.room table.old solutions.old }
+    ensures { Cleared part.n part.room table.old solutions.old table.new solutions.new }
 {
-    let from = 4 * (n as usize);
-    let count = 4 * ((room - n) as usize);
+    let from = 4 * (part.n as usize);
+    let count = 4 * ((part.room - part.n) as usize);
     fill(table, from, count, 0);
-    fill(solutions, 0, room as usize, NONE);
+    fill(solutions, 0, part.room as usize, NONE);
 }
 
-// The first record from n on that was not written, where the tags end: a search by halves, which reads at most 13 tags.
-pub fn first_unused(table: &[u32], n: u32, room: u32) -> u32
-    requires { (n ≤ room) × (4 * room ≤ length table.now) }
-    ensures { Unused n room table.now result result }
+// The first record of the part that was not written, where the tags end: a search by halves, which reads at most 13 tags. It has a
+// loop of its own, since the tags stand four words apart, and a slice's `partition_point` takes each word.
+pub fn first_unused(table: &[u32], part: Part) -> u32
+    requires { (part.n ≤ part.room) × (4 * part.room ≤ length table.now) }
+    ensures { Unused part.n part.room table.now result result }
 {
-    let mut low = n;
-    let mut high = room;
+    let mut low = part.n;
+    let mut high = part.room;
     while low < high {
         let middle = low + (high - low) / 2;
         if table[4 * (middle as usize)] == 0 {

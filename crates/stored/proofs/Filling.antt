@@ -1,10 +1,10 @@
 -- Words filled from bytes one after another.
-use Prim.Native.Nat.{ℕ, zero, suc, ◌+◌, ◌*◌, ◌<◌, ◌≤◌}
-use mathlib.Core.Path.{◌≡◌, sym, ap, ◌∙◌}
-use mathlib.Core.List.{List, [], ◌∷◌, ◌++◌, append-nil}
+use Prim.Native.Nat.{ℕ, zero, suc, ◌+◌, ◌*◌, ◌<◌}
+use mathlib.Core.Path.{◌≡◌, ap}
+use mathlib.Core.List.{List, [], ◌∷◌, ◌++◌}
 use native.Mathlib.Omega.{arith}
 use native.Mathlib.Numerals.{add-one}
-use lib.ListN.{length, set, drop, drop_of_length-le}
+use lib.ListN.{length, set, drop}
 use Rattle.rules.specs.File.{word}
 use Rattle.stored.specs.Words.{words_from}
 
@@ -21,6 +21,3 @@ set_next bytes (y ∷ words) first (suc i) h =
 module _ (bytes before words : List ℕ) (first i : ℕ) (e : words ≡ words_from bytes first i ++ drop i before) where
   pub filled_more : (x : ℕ) → i < length before → word bytes (4 * (first + i)) ≡ x → set words i x ≡ words_from bytes first (i + 1) ++ drop (i + 1) before
   filled_more x h w = rw (e, ← w, add-one) (set_next bytes before first i h)
-
-  pub filled-all : i ≤ length before → length before ≤ i → words_from bytes first (length before) ≡ words
-  filled-all g h = let k : i ≡ length before = omega arith in sym (e ∙ rw (drop_of_length-le before h, ← k) (append-nil _))

@@ -9,10 +9,7 @@ use borrow.Rule.Slice.PartMut.{mid_of, mid_len}
 use Rattle.lines.specs.declared.Begun.{Begun}
 use Rattle.lines.specs.Lines.{Lines}
 use Rattle.lines.specs.Making.{Makes, Made}
-use Rattle.tanczotka.specs.declared.Moved.{Moved}
-use Rattle.tanczotka.specs.declared.Moved.TheVariants.{Bytes}
-use Rattle.tanczotka.specs.Moving.{Within, half}
-use Rattle.tanczotka.specs.Gathering.{Gathers}
+use Rattle.tanczotka.specs.Gathering.{Gathers, half}
 
 module _ (x : Begun) (ws ss hs os text : List ℕ) (end : ℕ) (g : Gathers x ws ss hs os text end) where
   pub next_asks : (i : ℕ) → i ≤ x.holes → Makes (mid_of end (length text - end) text) i x ws ss hs os
@@ -28,8 +25,8 @@ module _ (x : Begun) (ws ss hs os text : List ℕ) (end : ℕ) (g : Gathers x ws
   pub next_ends : (i : ℕ) (text₁ : List ℕ) (r : ℕ) → Made i x ws ss hs text₁ r → end + r ≤ 131072
   next_ends i text₁ r m = let s = m.short in let e = g.filled in omega arith
 
-  pub next_gathers : (os₁ text₁ : List ℕ) (k : ℕ) (y : Moved) → length os₁ ≡ length os → length text₁ ≡ length text → Within half y → y ≡ Bytes k → Gathers x ws ss hs os₁ text₁ k
-  next_gathers os₁ text₁ k y lo lt w e = record { file = g.file; lines = g.lines; few = g.few; output = lo ∙ g.output; long = lt ∙ g.long; filled = w.within k e }
+  pub next_gathers : (os₁ text₁ : List ℕ) (k : ℕ) → length os₁ ≡ length os → length text₁ ≡ length text → k ≤ half → Gathers x ws ss hs os₁ text₁ k
+  next_gathers os₁ text₁ k lo lt w = record { file = g.file; lines = g.lines; few = g.few; output = lo ∙ g.output; long = lt ∙ g.long; filled = w }
 
 -- what was begun, with nothing gathered
 pub print_gathers : (bs ws ss hs : List ℕ) (x : Begun) (os text : List ℕ) → Lines bs ws ss hs x → length hs ≡ 4096 → length os ≡ 16384 → length text ≡ 131072 → Gathers x ws ss hs os text 0

@@ -1,2 +1,1 @@
-pub mod Moving  -- no more bytes are moved than there are
 pub mod Gathering  -- the loop over the lines

@@ -2,7 +2,10 @@
 use Rattle.std.specs.Prelude.{ℕ, ◌≤◌, ◌≡◌, List, length}
 use Rattle.lines.specs.declared.Begun.{Begun}
 use Rattle.lines.specs.Lines.{Lines}
-use Rattle.tanczotka.specs.Moving.{half}
+
+-- half of the buffer in which lines are gathered: the other half has room for the longest line
+abbrev pub half : ℕ
+half = 65536
 
 -- the words that some file left, an output of 4,096 records, and a buffer of which at most half is filled
 pub record Gathers (x : Begun) (ws ss hs os text : List ℕ) (end : ℕ) : Type 0 where

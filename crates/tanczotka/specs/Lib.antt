@@ -1,2 +1,1 @@
-pub mod Moving  -- how many bytes were moved
 pub mod Gathering  -- the lines that are gathered in a buffer

@@ -2,15 +2,15 @@
 // standard output fails after it.
 #![tactic(auto)]
 
-ghost use Rattle.std.specs.Prelude.{◌≤◌, length};
-ghost use Rattle.tanczotka.specs.Moving.{Within, half};
-ghost use Rattle.tanczotka.specs.Gathering.{Gathers};
+ghost use Rattle.std.specs.Prelude.{ℕ, ◌≤◌, IfOk, length};
+ghost use Rattle.std.specs.Fn.{AlwaysReturns};
+ghost use Rattle.tanczotka.specs.Gathering.{Gathers, half};
 
 use lines::{Begun, begin, line};
 use std::io;
 use std::io::{Error, ErrorKind, Read, Stderr, Stdin, Stdout, Write};
 
-// The exit statuses: everything was printed; standard input could not be read; standard output could not be written.
+// The exit statuses, which the entry in C returns: everything was printed; standard input could not be read; standard output could not be written.
 const PRINTED: i32 = 0;
 
 const NOT_READ: i32 = 3;
@@ -20,97 +20,72 @@ const NOT_WRITTEN: i32 = 4;
 // A call that was interrupted is made again, at most so often.
 const CALLS: u32 = 1000000;
 
-// What reading or writing came to: so many bytes, or why it failed.
-#[derive(Drop)]
-enum Moved {
-    Bytes(usize),
-    Failed(Error),
+// What a call that moves bytes answers, made again where it was interrupted.
+fn uninterrupted<F: FnMut() -> io::Result<usize>>(mut call: F) -> io::Result<usize>
+    requires { F.IsAlwaysCallable call }
+    ensures { (most : ℕ) → AlwaysReturns F.FnMut (λ _ moved. IfOk moved (λ count. count ≤ most)) call → IfOk result (λ count. count ≤ most) }
+{
+    for _ in 0..CALLS {
+        match call() {
+            Err(why) if why.kind() == ErrorKind::Interrupted => {}
+            moved => return moved,
+        }
+    }
+    Err(Error::from(ErrorKind::Interrupted))
 }
 
 // Some bytes of the input, none at its end.
-fn read_some<R: Read>(input: &mut R, bytes: &mut [u8]) -> Moved
-    ensures { Within (length bytes.old) result }
+fn read_some<R: Read>(input: &mut R, bytes: &mut [u8]) -> io::Result<usize>
+    ensures { IfOk result (λ count. count ≤ length bytes.old) }
 {
-    let mut calls = CALLS;
-    while 0 < calls {
-        match input.read(bytes) {
-            Ok(count) => return Moved::Bytes(count),
-            Err(why) => {
-                if why.kind() != ErrorKind::Interrupted {
-                    return Moved::Failed(why);
-                }
-            }
-        }
-        calls -= 1;
-    }
-    Moved::Failed(Error::from(ErrorKind::Interrupted))
+    uninterrupted(|| input.read(bytes))
 }
 
 // Some of the bytes to the output.
-fn write_some<W: Write>(out: &mut W, bytes: &[u8]) -> Moved
-    ensures { Within (length bytes.now) result }
+fn write_some<W: Write>(out: &mut W, bytes: &[u8]) -> io::Result<usize>
+    ensures { IfOk result (λ count. count ≤ length bytes.now) }
 {
-    let mut calls = CALLS;
-    while 0 < calls {
-        match out.write(bytes) {
-            Ok(count) => return Moved::Bytes(count),
-            Err(why) => {
-                if why.kind() != ErrorKind::Interrupted {
-                    return Moved::Failed(why);
-                }
-            }
-        }
-        calls -= 1;
-    }
-    Moved::Failed(Error::from(ErrorKind::Interrupted))
+    uninterrupted(|| out.write(bytes))
 }
 
-// The input up to its end, or until the bytes are full.
-fn read_all<R: Read>(input: &mut R, bytes: &mut [u8]) -> Moved
-    ensures { Within (length bytes.old) result }
+// The input up to its end, or until the bytes are full; how many were read. `read_to_end` of the library would put them on the heap, and
+// `read_exact` does not say how many there were.
+fn read_all<R: Read>(input: &mut R, bytes: &mut [u8]) -> io::Result<usize>
+    ensures { IfOk result (λ size. size ≤ length bytes.old) }
 {
     let mut done = 0;
     while done < bytes.len() {
-        let count = match read_some(input, &mut bytes[done..]) {
-            Moved::Bytes(count) => count,
-            Moved::Failed(why) => return Moved::Failed(why),
-        };
-        if count == 0 {
-            return Moved::Bytes(done);
+        match read_some(input, &mut bytes[done..])? {
+            0 => return Ok(done),
+            count => done += count,
         }
-        done += count;
     }
-    Moved::Bytes(done)
+    Ok(done)
 }
 
-// All of the bytes to the output; an error where a write failed or took nothing.
+// All of the bytes to the output; an error where a write failed or took nothing. `write_all` of the library has another message for that, and
+// makes a call again without this limit.
 fn write_all<W: Write>(out: &mut W, bytes: &[u8]) -> io::Result<()> {
-    let mut done = 0;
-    while done < bytes.len() {
-        let count = match write_some(out, &bytes[done..]) {
-            Moved::Bytes(count) => count,
-            Moved::Failed(why) => return Err(why),
-        };
-        if count == 0 {
-            return Err(Error::from(ErrorKind::WriteZero));
+    let mut rest = bytes;
+    while !rest.is_empty() {
+        match write_some(out, rest)? {
+            0 => return Err(Error::from(ErrorKind::WriteZero)),
+            count => rest = &rest[count..],
         }
-        done += count;
     }
     Ok(())
 }
 
 // Text that was gathered is written once there are more than 65,536 bytes of it; how many are gathered then.
-fn write_gathered<W: Write>(out: &mut W, text: &[u8], end: usize) -> Moved
+fn write_gathered<W: Write>(out: &mut W, text: &[u8], end: usize) -> io::Result<usize>
     requires { end ≤ length text.now }
-    ensures { Within half result }
+    ensures { IfOk result (λ gathered. gathered ≤ half) }
 {
     if end <= 65536 {
-        return Moved::Bytes(end);
+        return Ok(end);
     }
-    match write_all(out, &text[..end]) {
-        Ok(()) => Moved::Bytes(0),
-        Err(why) => Moved::Failed(why),
-    }
+    write_all(out, &text[..end])?;
+    Ok(0)
 }
 
 // The lines, gathered in a buffer; an error where one could not be written.
@@ -126,14 +101,9 @@ fn write_lines<W: Write>(
     requires { Gathers begun table.now solutions.now holes.now output.old text.old 0 }
 {
     let mut end = 0;
-    let mut i = 0u32;
-    while i <= begun.holes {
+    for i in 0..=begun.holes {
         let made = line(&mut text[end..], i, begun, table, solutions, holes, output);
-        end = match write_gathered(out, text, end + made) {
-            Moved::Bytes(gathered) => gathered,
-            Moved::Failed(why) => return Err(why),
-        };
-        i += 1;
+        end = write_gathered(out, text, end + made)?;
     }
     write_all(out, &text[..end])
 }
@@ -165,8 +135,8 @@ fn print<W: Write>(out: &mut W, file: &[u8]) -> io::Result<()> {
 pub extern "C" fn tanczotka_program(mut input: Stdin, mut out: Stdout, said: Stderr) -> i32 {
     let mut file = [0u8; 28673];
     let size = match read_all(&mut input, &mut file) {
-        Moved::Bytes(size) => size,
-        Moved::Failed(why) => {
+        Ok(size) => size,
+        Err(why) => {
             let _ = eprintln!(said; "tanczotka: standard input could not be read: {why}");
             return NOT_READ;
         }

@@ -1,12 +1,10 @@
 -- A packed reply can be taken apart: answer, place and used do not run into one another.
 use Prim.Native.Nat.{ℕ, zero, suc, ◌+◌, ◌/◌, ◌%◌, ◌<◌, ◌≤◌, min}
-use Rattle.std.specs.Prelude.{◌≡◌, List, [], ◌∷◌, map, Bool, true, false, not, ◌⊎◌, length, eqb, ltb}
+use Rattle.std.specs.Prelude.{◌≡◌, List, [], ◌∷◌, map, Bool, true, false, not, ◌⊎◌, length, eqb, ltb, Option, ℕ, Some, None}
 use Rattle.std.proofs.Math.Path.{refl}
 use Rattle.std.proofs.Math.Logic.{inl}
 use Rattle.std.proofs.Common.{inr, arith, eqb-true, ltb-false}
 use Rattle.std.proofs.lemmas.Bool.{eqb-false}
-use Rattle.rules.specs.declared.Found.{Found}
-use Rattle.rules.specs.declared.Found.TheVariants.{At, Nowhere}
 use Rattle.rules.specs.declared.Reply.{Reply}
 use Rattle.rules.specs.Lists.{both, either, least, those, from, below, lowest, enough}
 use Rattle.rules.specs.Words.{NONE, LA, HO, EQ, tag, field_a, field_b, has, is_term, arguments}
@@ -123,16 +121,16 @@ leaves-place asked ws ss qs n = go (ltb (records ws) n) refl (ltb (length ss) (r
     named m e (inl z) = absurd (eqb-false _ _ e z)
     named m e (inr l) = omega arith
 
-    go : (a : Bool) → ltb (records ws) n ≡ a → (b : Bool) → ltb (length ss) (records ws) ≡ b → (c : Found) → broken ws n ≡ c → (d : Bool) → asked ≡ d → (e : Found) → ill_typed ws n ≡ e
+    go : (a : Bool) → ltb (records ws) n ≡ a → (b : Bool) → ltb (length ss) (records ws) ≡ b → (c : Option ℕ) → broken ws n ≡ c → (d : Bool) → asked ≡ d → (e : Option ℕ) → ill_typed ws n ≡ e
         → (f : Bool) → eqb (no_pattern ws n) NONE ≡ f → (leaves (refusal asked ws ss n) ws ss qs n).said.place < 4096
     go true a b b₁ c c₁ d d₁ e e₁ f f₁ = rw (a, refusal, leaves) (omega arith)
     go false a true b c c₁ d d₁ e e₁ f f₁ = rw (a, refusal, b, leaves) (omega arith)
-    go false a false b (At x) c d d₁ e e₁ f f₁ = let m = fitting_few ws n a in let l = lowest-below n _ x c in rw (a, refusal, b, c, leaves) (omega arith)
-    go false a false b Nowhere c false d e e₁ f f₁ = rw (a, refusal, b, c, d, leaves) (omega arith)
-    go false a false b Nowhere c true d (At x) e f f₁ = let m = fitting_few ws n a in let l = lowest-below n _ x e in rw (a, refusal, b, c, d, e, leaves) (omega arith)
-    go false a false b Nowhere c true d Nowhere e false f =
+    go false a false b (Some x) c d d₁ e e₁ f f₁ = let m = fitting_few ws n a in let l = lowest-below n _ x c in rw (a, refusal, b, c, leaves) (omega arith)
+    go false a false b None c false d e e₁ f f₁ = rw (a, refusal, b, c, d, leaves) (omega arith)
+    go false a false b None c true d (Some x) e f f₁ = let m = fitting_few ws n a in let l = lowest-below n _ x e in rw (a, refusal, b, c, d, e, leaves) (omega arith)
+    go false a false b None c true d None e false f =
         rw (a, refusal, b, c, d, e, f, leaves) (named (fitting_few ws n a) f (no_pattern_names ws n (broken_none ws n c)))
-    go false a false b Nowhere c true d Nowhere e true f = let z = admitted_place ws ss qs n in rw (a, refusal, b, c, d, e, f) (omega arith)
+    go false a false b None c true d None e true f = let z = admitted_place ws ss qs n in rw (a, refusal, b, c, d, e, f) (omega arith)
 
 -- where solving answers 0 show's place is 0, otherwise solving's
 shows-place : (l : Behind) (os : List ℕ) (h : ℕ) → l.said.place < 4096 → (shows l os h).behind.said.place < 4096
@@ -153,15 +151,15 @@ read-place : (bs ws : List ℕ) → ((read bs ws).said.answer ≤ 13) × ((read 
 unfolding read
 read-place bs ws = go (either (ltb 28672 (length bs)) (not (eqb (length bs % 14) 0))) refl (ltb (records ws) (length bs / 14)) refl (lowest (length bs / 14) (λ r. not (is_known (marked bs r)))) refl
   where
-    go : (a : Bool) → either (ltb 28672 (length bs)) (not (eqb (length bs % 14) 0)) ≡ a → (b : Bool) → ltb (records ws) (length bs / 14) ≡ b → (c : Found) → lowest (length bs / 14) (λ r. not (is_known (marked bs r))) ≡ c
+    go : (a : Bool) → either (ltb 28672 (length bs)) (not (eqb (length bs % 14) 0)) ≡ a → (b : Bool) → ltb (records ws) (length bs / 14) ≡ b → (c : Option ℕ) → lowest (length bs / 14) (λ r. not (is_known (marked bs r))) ≡ c
         → ((read bs ws).said.answer ≤ 13) × ((read bs ws).said.place < 4096)
     go true e b f c g = rw (e, read) (omega arith, omega arith)
     go false e true f c g = rw (e, read, f) (omega arith, omega arith)
-    go false e false f (At r) g =
+    go false e false f (Some r) g =
         let m = fitting_few ws (length bs / 14) f in
         let l = lowest-below (length bs / 14) _ r g in
         rw (e, read, f, g) (omega arith, omega arith)
-    go false e false f Nowhere g = rw (e, read, f, g) (omega arith, omega arith)
+    go false e false f None g = rw (e, read, f, g) (omega arith, omega arith)
 
 -- What each of the four functions replies
 

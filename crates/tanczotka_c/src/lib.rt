@@ -13,7 +13,7 @@ use rules::Reply;
 use solver::{show, solve};
 use write::write;
 
-// Answer, place and used in 16-bit fields, lowest first; the fourth is 0.
+// Answer, place and used in 16-bit fields, lowest first; the fourth is 0. No `From`: that has no `requires`.
 fn pack(reply: Reply) -> u64
     requires { reply.used ≤ 4096 }
     ensures { packed reply ≡ result }

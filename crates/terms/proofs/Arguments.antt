@@ -1,4 +1,5 @@
 -- An argument list, turn by turn: what is left of it and of what it is held to, after the first arguments have passed.
+use Rattle.std.specs.Prelude.{Some, None}
 use Prim.Native.Nat.{ℕ, ◌+◌, ◌*◌, ◌-◌, ◌<◌, ◌≤◌, min}
 use mathlib.Core.Path.{◌≡◌, refl, sym, ◌∙◌}
 use mathlib.Core.List.{List, [], ◌∷◌}
@@ -9,18 +10,17 @@ use borrow.Author.Tests.{eq-eqb, ne_eqb, not-true, not-false}
 use lib.ListN.{length}
 use lib.Dec.{eqb}
 use Rattle.table.specs.declared.Record.{Record}
-use Rattle.table.specs.Reading.{IsRecord}
+use Rattle.table.specs.Reading.{IsRecord, Follows}
 use Rattle.rules.specs.Lists.{both, each, enough}
 use Rattle.rules.specs.Words.{NONE, AR, tag, is_type, is_term}
 use Rattle.rules.specs.Typing.{domains, fills, checks}
 use Rattle.rules.specs.Pattern.{offence}
 use Rattle.laws.specs.Tests.{false_true, both_no}
 use Rattle.laws.specs.Lists.{size, size_real, elements_none}
-use Rattle.laws.specs.Places.{TypeAt, ListAt, placed_inside, domain_at, result_at, term_cell, type_cell}
+use Rattle.laws.specs.Places.{TypeAt, ListAt, CellAt, placed_inside, domain_at, result_at, term_cell, type_cell}
 use Rattle.heads.specs.Stack.{binders}
 use Rattle.heads.specs.Heads.{named}
 use Rattle.heads.specs.HeadsLaws.{domains_arrow, asks_arrow, named-fills, other_fills, named-bare}
-use Rattle.terms.specs.declared.Checked.TheVariants.{Fails, ButLast}
 use Rattle.terms.specs.Asks.{among_terms, takes, filled, TermAsks, ArgsAsk, ListAsks, Told, Leaves}
 use Rattle.terms.proofs.Occurrences.{among_end, among_cell, bare-offence}
 
@@ -54,58 +54,54 @@ module _ {Held : ℕ → Type 0} {so : ℕ → ℕ → Bool} {ws st₀ : List �
     pub stack_holds : d ≤ length st
     stack_holds = let room = p.asks.room in let long = p.same_length in omega arith
 
-    module _ (z : list ≡ NONE → ⊥) where
-      pub cell_inside : 4 * list + 3 < length ws
-      cell_inside = (term_cell ws list p.left z).inside
+    module _ {at next : ℕ} (f : Follows ws list at next) where
+      cell : CellAt (is_term ws) ws list
+      cell = term_cell ws list p.left f.some
 
-      module _ {cell : Record} (e : IsRecord ws list cell) where
-        pub element_inside : 4 * cell.a + 3 < length ws
-        element_inside = rw e.a_is (placed_inside _ ws _ (term_cell ws list p.left z).element)
+      pub rest_less : size next < size list
+      rest_less = rw f.rest cell.falls
 
-        pub rest_less : size cell.b < size list
-        rest_less = rw e.b_is (term_cell ws list p.left z).falls
+      pub element_less : (k : ℕ) → 2 * size l ≡ k → 2 * at + 2 < k
+      element_less k h =
+          let lo = cell.lower in
+          let s = size_real list f.some in
+          let le = p.less in
+          let a = f.element in
+          omega arith
 
-        pub element_less : (k : ℕ) → 2 * size l ≡ k → 2 * cell.a + 2 < k
-        element_less k h =
-            let lo = (term_cell ws list p.left z).lower in
-            let s = size_real list z in
-            let le = p.less in
-            let a = e.a_is in
-            omega arith
+      pub element_asks : (t : ℕ) → TypeAt ws t → TermAsks ws st low d at t
+      element_asks t ty =
+          let lo = cell.lower in
+          let s = size_real list f.some in
+          let le = p.less in
+          let room = p.asks.room in
+          let long = p.same_length in
+          let a = f.element in
+          record { term = rw f.element cell.element; type = ty; bound = rw p.keeps p.asks.bound; room = omega arith; few = p.few }
 
-        pub element_asks : (t : ℕ) → TypeAt ws t → TermAsks ws st low d cell.a t
-        element_asks t ty =
-            let lo = (term_cell ws list p.left z).lower in
-            let s = size_real list z in
-            let le = p.less in
-            let room = p.asks.room in
-            let long = p.same_length in
-            let a = e.a_is in
-            record { term = rw e.a_is (term_cell ws list p.left z).element; type = ty; bound = rw p.keeps p.asks.bound; room = omega arith; few = p.few }
+      pub one_cell : among_terms ws list ≡ min (offence enough ws at) (among_terms ws next)
+      one_cell = rw (f.element, f.rest) (among_cell ws list p.left f.some)
 
-        pub one_cell : among_terms ws list ≡ min (offence enough ws cell.a) (among_terms ws cell.b)
-        one_cell = rw (e.a_is, e.b_is) (among_cell ws list p.left z)
-
-        passed_on : (y : ℕ) (st₁ : List ℕ) (low₁ : ℕ) → Held y → so list rest ≡ so cell.b y → length st₁ ≡ length st
-            → binders st₁ d ≡ binders st d → low₁ ≡ min low (offence enough ws cell.a)
-            → Passed Held so ws st₀ low₀ d l x st₁ low₁ cell.b y
-        passed_on y st₁ low₁ h s n k o =
-            let fall = rest_less in
-            let le = p.less in
-            let few = p.few in
-            let q = p.lowest in
-            let one = one_cell in
-            record {
-              asks = p.asks;
-              same_length = n ∙ p.same_length;
-              keeps = k ∙ p.keeps;
-              left = rw e.b_is (term_cell ws list p.left z).rest;
-              held = h;
-              less = omega arith;
-              same = p.same ∙ s;
-              lowest = omega arith;
-              few = omega arith;
-            }
+      passed_on : (y : ℕ) (st₁ : List ℕ) (low₁ : ℕ) → Held y → so list rest ≡ so next y → length st₁ ≡ length st
+          → binders st₁ d ≡ binders st d → low₁ ≡ min low (offence enough ws at)
+          → Passed Held so ws st₀ low₀ d l x st₁ low₁ next y
+      passed_on y st₁ low₁ h s n k o =
+          let fall = rest_less in
+          let le = p.less in
+          let few = p.few in
+          let q = p.lowest in
+          let one = one_cell in
+          record {
+            asks = p.asks;
+            same_length = n ∙ p.same_length;
+            keeps = k ∙ p.keeps;
+            left = rw f.rest cell.rest;
+            held = h;
+            less = omega arith;
+            same = p.same ∙ s;
+            lowest = omega arith;
+            few = omega arith;
+          }
 
 -- Held to a head's type
 
@@ -149,7 +145,7 @@ module _ {ws st₀ : List ℕ} {low₀ d l head : ℕ} {st : List ℕ} {low list
   head_inside = placed_inside _ ws rest p.passed.held
 
   pub list_inside : 4 * list + 3 < length ws
-  list_inside = cell_inside p.passed p.some
+  list_inside = (term_cell ws list p.passed.left p.some).inside
 
   pub left_some : 1 ≤ left
   left_some = let z = p.more in omega arith
@@ -157,7 +153,7 @@ module _ {ws st₀ : List ℕ} {low₀ d l head : ℕ} {st : List ℕ} {low list
   arrow : tag ws rest ≡ AR
   arrow = asks_arrow p.passed.held (λ e. p.more (p.counted ∙ e))
 
-  stops : (st₁ : List ℕ) (low₁ : ℕ) → binders st₁ d ≡ binders st d → takes ws (binders st₀ d) list rest ≡ false → Leaves ws st₀ low₀ d l head st₁ low₁ Fails
+  stops : (st₁ : List ℕ) (low₁ : ℕ) → binders st₁ d ≡ binders st d → takes ws (binders st₀ d) list rest ≡ false → Leaves ws st₀ low₀ d l head st₁ low₁ None
   unfolding Leaves
   stops st₁ low₁ k e = (p.passed.same ∙ e, k ∙ p.passed.keeps)
 
@@ -167,6 +163,9 @@ module _ {ws st₀ : List ℕ} {low₀ d l head : ℕ} {st : List ℕ} {low list
 
     result_type : TypeAt ws t.b
     result_type = rw i.b_is (result_at ws rest p.passed.held arrow)
+
+    on : Follows ws list cell.a cell.b
+    on = record { some = p.some; element = e.a_is; rest = e.b_is }
 
     -- one argument less is asked of the rest
     fewer : left - 1 ≡ length (domains enough ws t.b)
@@ -179,22 +178,22 @@ module _ {ws st₀ : List ℕ} {low₀ d l head : ℕ} {st : List ℕ} {low list
     rest_list : ListAt (is_term ws) ws cell.b
     rest_list = rw e.b_is (term_cell ws list p.passed.left p.some).rest
 
-    pub too_many : left - 1 ≡ 0 → (cell.b ≡ NONE → ⊥) → Leaves ws st₀ low₀ d l head st low Fails
+    pub too_many : left - 1 ≡ 0 → (cell.b ≡ NONE → ⊥) → Leaves ws st₀ low₀ d l head st low None
     too_many z n = stops st low refl (turn ∙ rw (takes-more ws (binders st₀ d) cell.b t.b rest_list n (sym fewer ∙ z)) (both_no _))
 
-    pub too_short : (left - 1 ≡ 0 → ⊥) → cell.b ≡ NONE → Leaves ws st₀ low₀ d l head st low Fails
+    pub too_short : (left - 1 ≡ 0 → ⊥) → cell.b ≡ NONE → Leaves ws st₀ low₀ d l head st low None
     too_short z n = stops st low refl (turn ∙ rw (takes_none ws (binders st₀ d) cell.b t.b n, ← fewer, ne_eqb _ _ z) (both_no _))
 
-    pub last_remains : left - 1 ≡ 0 → cell.b ≡ NONE → Leaves ws st₀ low₀ d l head st low (ButLast cell.a t.a)
+    pub last_remains : left - 1 ≡ 0 → cell.b ≡ NONE → Leaves ws st₀ low₀ d l head st low (Some (record { last = cell.a; ty = t.a }))
     unfolding Leaves
     last_remains z n =
         let none = among_end ws cell.b n in
-        let less = element_less p.passed p.some e _ refl in
+        let less = element_less p.passed on _ refl in
         let few = p.passed.few in
         let lowest = p.passed.lowest in
-        let one = one_cell p.passed p.some e in
+        let one = one_cell p.passed on in
         record {
-          asks = element_asks p.passed p.some e t.a domain_type;
+          asks = element_asks p.passed on t.a domain_type;
           lower = omega arith;
           keeps = p.passed.keeps;
           same = p.passed.same ∙ turn ∙ rw (takes_none ws (binders st₀ d) cell.b t.b n, ← fewer, eq-eqb _ _ z, both_yes, p.passed.keeps);
@@ -202,16 +201,16 @@ module _ {ws st₀ : List ℕ} {low₀ d l head : ℕ} {st : List ℕ} {low list
         }
 
     pub argument_asks : TermAsks ws st low d cell.a t.a
-    argument_asks = element_asks p.passed p.some e t.a domain_type
+    argument_asks = element_asks p.passed on t.a domain_type
 
     pub argument_less : (k : ℕ) → 2 * size l ≡ k → 2 * cell.a + 2 < k
-    argument_less k h = element_less p.passed p.some e k h
+    argument_less k h = element_less p.passed on k h
 
     pub cells_less : size cell.b < size list
-    cells_less = rest_less p.passed p.some e
+    cells_less = rest_less p.passed on
 
     module _ {st₁ : List ℕ} {low₁ : ℕ} {b : Bool} (h : Told d (checks enough ws (binders st d) cell.a t.a) (offence enough ws cell.a) st low st₁ low₁ b) where
-      pub argument_fails : not b ≡ true → Leaves ws st₀ low₀ d l head st₁ low₁ Fails
+      pub argument_fails : not b ≡ true → Leaves ws st₀ low₀ d l head st₁ low₁ None
       unfolding both
       argument_fails f = stops st₁ low₁ h.keeps (turn ∙ rw (← p.passed.keeps, ← h.says, not-true b f))
 
@@ -219,7 +218,7 @@ module _ {ws st₀ : List ℕ} {low₀ d l head : ℕ} {st : List ℕ} {low list
           → Counting ws st₀ low₀ d l head st₁ low₁ cell.b t.b (left - 1)
       unfolding both
       argument_checks n z m f = record {
-        passed = passed_on p.passed p.some e t.b st₁ low₁ result_type
+        passed = passed_on p.passed on t.b st₁ low₁ result_type
             (turn ∙ rw (← p.passed.keeps, ← h.says, not-false b f)) n h.keeps (h.lowest (not-false _ f));
         some = m;
         counted = fewer;
@@ -241,50 +240,60 @@ module _ {ws st₀ : List ℕ} {low₀ d l context : ℕ} {st : List ℕ} {low l
       go (yes e) = rw (elements_none ws list n, elements_none ws rest e, eq-eqb _ _ e)
       go (no e) = rw (elements_none ws list n, (type_cell ws rest p.held e).reads, ne_eqb _ _ e)
 
-  module _ (z : list ≡ NONE → ⊥) where
+  module _ {vs : List ℕ} (k : vs ≡ ws) {at next : ℕ} (f : Follows vs list at next) where
+    on-cell : Follows ws list at next
+    on-cell = rw k at f
+
+    pub fills_inside : 4 * at + 3 < length ws
+    fills_inside = rw on-cell.element (placed_inside _ ws _ (term_cell ws list p.left on-cell.some).element)
+
+    pub filling_less : (k : ℕ) → 2 * size l ≡ k → 2 * at + 2 < k
+    filling_less = element_less p on-cell
+
     pub context_short : rest ≡ NONE → Told d (filled ws (binders st₀ d) l context) (among_terms ws l) st₀ low₀ st low false
     unfolding filled each
     context_short n =
         refuses p st low refl
-        (rw ((term_cell ws list p.left z).reads, elements_none ws rest n))
+        (rw ((term_cell ws list p.left on-cell.some).reads, elements_none ws rest n))
 
-    module _ (y : rest ≡ NONE → ⊥) where
-      pub context_inside : 4 * rest + 3 < length ws
-      context_inside = (type_cell ws rest p.held y).inside
+    module _ {us : List ℕ} (j : us ≡ ws) {ty more : ℕ} (t : Follows us rest ty more) where
+      of-type : Follows ws rest ty more
+      of-type = rw j at t
 
-      module _ {t cell : Record} (i : IsRecord ws rest t) (e : IsRecord ws list cell) where
-        pub context_type : TypeAt ws t.a
-        context_type = rw i.a_is (type_cell ws rest p.held y).element
+      type : CellAt (is_type ws) ws rest
+      type = type_cell ws rest p.held of-type.some
 
-        filling : filled ws (binders st₀ d) list rest ≡ both (fills (checks enough ws) ws (binders st d) cell.a t.a) (filled ws (binders st₀ d) cell.b t.b)
-        unfolding filled each
-        filling = rw ((term_cell ws list p.left z).reads, (type_cell ws rest p.held y).reads, e.a_is, e.b_is, i.a_is, i.b_is, p.keeps)
+      pub fills_ask : TermAsks ws st low d at ty
+      fills_ask = element_asks p on-cell ty (rw of-type.element type.element)
 
-        module _ {m : Bool} (g : m ≡ named ws (binders st d) cell.a t.a) where
-          pub bare-fills : not m ≡ false → Filling ws st₀ low₀ d l context st low cell.b t.b
+      filling : filled ws (binders st₀ d) list rest ≡ both (fills (checks enough ws) ws (binders st d) at ty) (filled ws (binders st₀ d) next more)
+      unfolding filled each
+      filling = rw ((term_cell ws list p.left on-cell.some).reads, type.reads, on-cell.element, on-cell.rest, of-type.element, of-type.rest, p.keeps)
+
+      module _ {m : Bool} (g : m ≡ named ws (binders st d) at ty) where
+        pub bare-fills : not m ≡ false → Filling ws st₀ low₀ d l context st low next more
+        unfolding both
+        bare-fills f =
+            let so : named ws (binders st d) at ty ≡ true = sym g ∙ not-false _ f in
+            let none = bare-offence ws at fills_ask.term (named-bare _ _ _ _ so) in
+            let few = p.few in
+            passed_on p on-cell more st low
+            (rw of-type.rest type.rest)
+            (filling ∙ rw (named-fills ws (binders st d) at ty so)) refl refl (omega arith)
+
+        module _ (o : not m ≡ true) {st₁ : List ℕ} {low₁ : ℕ} {b : Bool} (h : Told d (checks enough ws (binders st d) at ty) (offence enough ws at) st low st₁ low₁ b) where
+          held_to : fills (checks enough ws) ws (binders st d) at ty ≡ b
+          held_to = other_fills ws (binders st d) at ty (sym g ∙ not-true _ o) ∙ sym h.says
+
+          pub filling-fails : not b ≡ true → Told d (filled ws (binders st₀ d) l context) (among_terms ws l) st₀ low₀ st₁ low₁ false
           unfolding both
-          bare-fills f =
-              let so : named ws (binders st d) cell.a t.a ≡ true = sym g ∙ not-false _ f in
-              let term = (element_asks p z e t.a context_type).term in
-              let none = bare-offence ws cell.a term (named-bare _ _ _ _ so) in
-              let few = p.few in
-              passed_on p z e t.b st low
-              (rw i.b_is (type_cell ws rest p.held y).rest)
-              (filling ∙ rw (named-fills ws (binders st d) cell.a t.a so)) refl refl (omega arith)
+          filling-fails f =
+              refuses p st₁ low₁ h.keeps
+              (filling ∙ rw (held_to, not-true b f))
 
-          module _ (o : not m ≡ true) {st₁ : List ℕ} {low₁ : ℕ} {b : Bool} (h : Told d (checks enough ws (binders st d) cell.a t.a) (offence enough ws cell.a) st low st₁ low₁ b) where
-            held_to : fills (checks enough ws) ws (binders st d) cell.a t.a ≡ b
-            held_to = other_fills ws (binders st d) cell.a t.a (sym g ∙ not-true _ o) ∙ sym h.says
-
-            pub filling-fails : not b ≡ true → Told d (filled ws (binders st₀ d) l context) (among_terms ws l) st₀ low₀ st₁ low₁ false
-            unfolding both
-            filling-fails f =
-                refuses p st₁ low₁ h.keeps
-                (filling ∙ rw (held_to, not-true b f))
-
-            pub filling-checks : length st₁ ≡ length st → not b ≡ false → Filling ws st₀ low₀ d l context st₁ low₁ cell.b t.b
-            unfolding both
-            filling-checks n f =
-                passed_on p z e t.b st₁ low₁
-                (rw i.b_is (type_cell ws rest p.held y).rest)
-                (filling ∙ rw (held_to, not-false b f)) n h.keeps (h.lowest (not-false _ f))
+          pub filling-checks : length st₁ ≡ length st → not b ≡ false → Filling ws st₀ low₀ d l context st₁ low₁ next more
+          unfolding both
+          filling-checks n f =
+              passed_on p on-cell more st₁ low₁
+              (rw of-type.rest type.rest)
+              (filling ∙ rw (held_to, not-false b f)) n h.keeps (h.lowest (not-false _ f))

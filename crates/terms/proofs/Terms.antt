@@ -1,4 +1,5 @@
 -- A term, turn by turn: what is left to check, under a lambda or in a last argument, and what its head asks.
+use Rattle.std.specs.Prelude.{Option, ℕ, Some, None}
 use Prim.Native.Nat.{ℕ, ◌+◌, ◌*◌, ◌<◌, ◌≤◌, min}
 use mathlib.Core.Path.{◌≡◌, refl, sym, ◌∙◌}
 use mathlib.Core.List.{List}
@@ -11,8 +12,6 @@ use lib.ListN.{length}
 use lib.Dec.{eqb}
 use Rattle.table.specs.declared.Record.{Record}
 use Rattle.table.specs.Reading.{IsRecord}
-use Rattle.rules.specs.declared.Found.{Found}
-use Rattle.rules.specs.declared.Found.TheVariants.{At, Nowhere}
 use Rattle.rules.specs.Lists.{both, enough}
 use Rattle.rules.specs.Words.{NONE, LA, CA, VA, HA, tag, field_a, field_b, has, is_type, is_term, arguments}
 use Rattle.rules.specs.Typing.{final_type, applied, check_term, checks}
@@ -28,8 +27,7 @@ use Rattle.heads.specs.Stack.{binders, type_of}
 use Rattle.heads.specs.Heads.{head_type, IsFinal, Bound, Binds}
 use Rattle.heads.specs.HeadsLaws.{binders_pop, head_variable, head_constant, type_found, type_missing}
 use Rattle.patterns.specs.Occurrences.{occurrence}
-use Rattle.terms.specs.declared.Checked.{Checked}
-use Rattle.terms.specs.declared.Checked.TheVariants.{Fails, ButLast}
+use Rattle.terms.specs.declared.LastArgument.{LastArgument}
 use Rattle.terms.specs.Asks.{among_terms, takes, filled, TermAsks, ArgsAsk, ListAsks, Told, Remains, Leaves}
 use Rattle.terms.proofs.Arguments.{takes_none, takes-more}
 use Rattle.terms.proofs.Occurrences.{among_end, lambda_offence, constant_offence, variable_offence, hole_offence}
@@ -109,14 +107,14 @@ module _ {ws st₀ : List ℕ} {low₀ d₀ r ty : ℕ} {st : List ℕ} {low d a
       pub body_less : x.a < term
       body_less = rw j.a_is (body_at ws term p.asks.term (tagged LA e)).0
 
-      module _ (st₁ : List ℕ) (f : Found) (v : Binds ws st d at st₁ f) where
-        pub no_arrow : f ≡ Nowhere → Tells st₁ low false
+      module _ (st₁ : List ℕ) (f : Option ℕ) (v : Binds ws st d at st₁ f) where
+        pub no_arrow : f ≡ None → Tells st₁ low false
         unfolding both has Binds
         no_arrow n =
-            let w : Binds ws st d at st₁ Nowhere = rw n at v in
+            let w : Binds ws st d at st₁ None = rw n at v in
             rw w.1 (refuses (check_lambda (checks enough ws) ws (binders st d) term at (tagged LA e) ∙ rw (ne_eqb _ _ w.0)))
 
-        module _ (body : ℕ) (n : f ≡ At body) where
+        module _ (body : ℕ) (n : f ≡ Some body) where
           bound : Bound ws st d at st₁ body
           unfolding Binds
           bound = rw n at v
@@ -200,7 +198,7 @@ module _ {ws st₀ : List ℕ} {low₀ d₀ r ty : ℕ} {st : List ℕ} {low d a
       variable_type : tag ws term ≡ VA → type_of (binders st d) x.a ≡ head_type ws (binders st d) x
       variable_type e = head_variable ws (binders st d) x _ (j.tag_is ∙ e) refl
 
-      constant_type : tag ws term ≡ CA → At (field_a ws x.a) ≡ head_type ws (binders st d) x
+      constant_type : tag ws term ≡ CA → Some (field_a ws x.a) ≡ head_type ws (binders st d) x
       constant_type e = head_constant ws (binders st d) x _ (λ v. let k = j.tag_is in omega arith) refl
 
       pub head_inside : (x.tag ≡ VA → ⊥) → 4 * x.a + 3 < length ws
@@ -209,8 +207,8 @@ module _ {ws st₀ : List ℕ} {low₀ d₀ r ty : ℕ} {st : List ℕ} {low d a
       rigid_offence : offence enough ws term ≡ among_terms ws x.b
       rigid_offence = rw j.b_is (elim rigid [ inl e ↦ variable_offence ws term p.asks.term e | inr e ↦ constant_offence ws term p.asks.term e ])
 
-      module _ {f : Found} (q : f ≡ head_type ws (binders st d) x) where
-        pub head-free : f ≡ Nowhere → Tells st low false
+      module _ {f : Option ℕ} (q : f ≡ head_type ws (binders st d) x) where
+        pub head-free : f ≡ None → Tells st low false
         unfolding both
         head-free n = go rigid
           where
@@ -218,7 +216,7 @@ module _ {ws st₀ : List ℕ} {low₀ d₀ r ty : ℕ} {st : List ℕ} {low d a
             go (inl e) = refuses (check_variable (checks enough ws) ws (binders st d) term at e ∙ rw (← j.a_is, le-ltb _ _ (type_missing (binders st d) x.a (variable_type e ∙ sym q ∙ n))))
             go (inr e) = let w : ◌≡◌ {A = ℕ} 0 1 = cc (constant_type e) in absurd (omega arith)
 
-        module _ {h : ℕ} (n : f ≡ At h) where
+        module _ {h : ℕ} (n : f ≡ Some h) where
           pub headed : Headed x h
           unfolding applied takes arguments both
           headed = go rigid
@@ -289,21 +287,21 @@ module _ {ws st₀ : List ℕ} {low₀ d₀ r ty : ℕ} {st : List ℕ} {low d a
   pub arguments_less : 2 * size x.b < k
   arguments_less = let s = g.less in let low = p.lower in let m = a.measure in omega arith
 
-  module _ (st₁ : List ℕ) (low₁ : ℕ) (o : Checked) (v : Leaves ws st low d x.b h st₁ low₁ o) where
-    pub list_fails : o ≡ Fails → Tells p st₁ low₁ false
+  module _ (st₁ : List ℕ) (low₁ : ℕ) (o : Option LastArgument) (v : Leaves ws st low d x.b h st₁ low₁ o) where
+    pub list_fails : o ≡ None → Tells p st₁ low₁ false
     unfolding Leaves
     list_fails e =
-        let w : Leaves ws st low d x.b h st₁ low₁ Fails = rw e at v in
+        let w : Leaves ws st low d x.b h st₁ low₁ None = rw e at v in
         record { says = sym (one p ∙ takes_list ∙ w.0); keeps = p.keeps st₁ w.1; lowest = λ t. absurd (false_true t) }
 
-    module _ {t u : ℕ} (e : o ≡ ButLast t u) where
-      left : Remains ws st low d x.b h st₁ low₁ t u
+    module _ {q : LastArgument} (e : o ≡ Some q) where
+      left : Remains ws st low d x.b h st₁ low₁ q.last q.ty
       unfolding Leaves
       left = rw e at v
 
-      pub last_less : t < term
+      pub last_less : q.last < term
       last_less = let s = g.less in let l = left.lower in omega arith
 
-      pub last_next : length st₁ ≡ length st → InHand ws st₀ low₀ d₀ r ty st₁ low₁ d u t
+      pub last_next : length st₁ ≡ length st → InHand ws st₀ low₀ d₀ r ty st₁ low₁ d q.ty q.last
       last_next k =
-          goes_on p st₁ low₁ d u t left.asks k last_less (λ s w. w ∙ left.keeps) (takes_list ∙ left.same) (rw g.offends left.lowest)
+          goes_on p st₁ low₁ d q.ty q.last left.asks k last_less (λ s w. w ∙ left.keeps) (takes_list ∙ left.same) (rw g.offends left.lowest)

@@ -1,5 +1,5 @@
 -- What the functions of this crate ask and answer.
-use Rattle.std.specs.Prelude.{ℕ, ◌+◌, ◌<◌, ◌≤◌, min, ◌≡◌, List, map, Bool, true, false, length}
+use Rattle.std.specs.Prelude.{ℕ, ◌+◌, ◌<◌, ◌≤◌, min, ◌≡◌, List, map, Bool, true, false, length, Option, Some, None}
 use Rattle.rules.specs.Lists.{each, least, enough}
 use Rattle.rules.specs.Words.{NONE, is_term, elements}
 use Rattle.rules.specs.Typing.{domains, fills, checks}
@@ -8,8 +8,7 @@ use Rattle.laws.specs.Lists.{size}
 use Rattle.laws.specs.Members.{Every}
 use Rattle.laws.specs.Places.{TypeAt, TermAt, ListAt}
 use Rattle.heads.specs.Stack.{binders}
-use Rattle.terms.specs.declared.Checked.{Checked}
-use Rattle.terms.specs.declared.Checked.TheVariants.{Fails, ButLast}
+use Rattle.terms.specs.declared.LastArgument.{LastArgument}
 
 -- the lowest offending occurrence in a list of terms, or NONE
 unfoldable pub among_terms : List ℕ → ℕ → ℕ
@@ -63,6 +62,6 @@ pub record Remains (ws st : List ℕ) (low d l head : ℕ) (st₁ : List ℕ) (l
   pub lowest : min low (among_terms ws l) ≡ min low₁ (offence enough ws last)
 
 -- what a check of list l after a head of this type leaves: the head does not take it, or the last argument decides
-unfoldable pub Leaves : List ℕ → List ℕ → ℕ → ℕ → ℕ → ℕ → List ℕ → ℕ → Checked → Type 0
-Leaves ws st low d l head st₁ low₁ Fails = (takes ws (binders st d) l head ≡ false) × (binders st₁ d ≡ binders st d)
-Leaves ws st low d l head st₁ low₁ (ButLast last t) = Remains ws st low d l head st₁ low₁ last t
+unfoldable pub Leaves : List ℕ → List ℕ → ℕ → ℕ → ℕ → ℕ → List ℕ → ℕ → Option LastArgument → Type 0
+Leaves ws st low d l head st₁ low₁ None = (takes ws (binders st d) l head ≡ false) × (binders st₁ d ≡ binders st d)
+Leaves ws st low d l head st₁ low₁ (Some left) = Remains ws st low d l head st₁ low₁ left.last left.ty

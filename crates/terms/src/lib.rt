@@ -12,14 +12,13 @@ ghost use Rattle.terms.specs.Asks.{filled, among_terms, TermAsks, ArgsAsk, ListA
 
 use heads::{bind, final_type, head_type, names};
 use patterns::offended;
-use rules::Found;
-use table::{HA, LA, NONE, read};
+use table::{HA, LA, NONE, elements, read};
 
-// What the check of an argument list answers: it fails, or all but the last argument are checked, and that one is to be checked at this type.
+// The last argument of a list whose others are checked, and the type at which it is to be checked.
 #[derive(Clone, Copy)]
-pub enum Checked {
-    Fails,
-    ButLast { last: u32, ty: u32 },
+pub struct LastArgument {
+    pub last: u32,
+    pub ty: u32,
 }
 
 // A term checks at a type under the binders on the stack. The loop goes on with a lambda's body, and with a rigid head's last argument: with a
@@ -42,7 +41,7 @@ pub fn check_term(
     loop {
         let x = read(table, term);
         if x.tag == LA {
-            let Found::At(body) = bind(table, stack, d, at) else {
+            let Some(body) = bind(table, stack, d, at) else {
                 return false;
             };
             d += 1;
@@ -53,7 +52,7 @@ pub fn check_term(
         if x.tag == HA {
             return check_hole(table, stack, low, d, term, at);
         }
-        let Found::At(head) = head_type(table, stack, d, x) else {
+        let Some(head) = head_type(table, stack, d, x) else {
             return false;
         };
         let f = final_type(table, head);
@@ -66,12 +65,11 @@ pub fn check_term(
         if x.b == NONE {
             return false;
         }
-        let Checked::ButLast { last, ty: t } = check_args(table, stack, low, d, x.b, head, f.count)
-        else {
+        let Some(left) = check_args(table, stack, low, d, x.b, head, f.count) else {
             return false;
         };
-        term = last;
-        at = t;
+        term = left.last;
+        at = left.ty;
     }
 }
 
@@ -97,7 +95,8 @@ fn check_hole(
     check_fills(table, stack, low, depth, x.b, hole.a)
 }
 
-// A list has as many arguments as the head's type asks, `count`, so that each is read beside an arrow, and each but the last checks.
+// A list has as many arguments as the head's type asks, `count`, so that each is read beside an arrow, and each but the last checks:
+// then the last one and the type asked of it. It goes by cells, since it looks one cell ahead.
 #[cycle(check_args_check_fills_check_hole_check_term)]
 fn check_args(
     table: &[u32],
@@ -107,7 +106,7 @@ fn check_args(
     l: u32,
     head: u32,
     count: u32,
-) -> Checked
+) -> Option<LastArgument>
     requires { ListAsks table.now stack.old low.old depth l head count }
     ensures { Leaves table.now stack.old low.old depth l head stack.new low.new result }
 {
@@ -120,18 +119,18 @@ fn check_args(
         left -= 1;
         if left == 0 {
             if cell.b != NONE {
-                return Checked::Fails;
+                return None;
             }
-            return Checked::ButLast {
+            return Some(LastArgument {
                 last: cell.a,
                 ty: t.a,
-            };
+            });
         }
         if cell.b == NONE {
-            return Checked::Fails;
+            return None;
         }
         if !check_term(table, stack, low, depth, cell.a, t.a) {
-            return Checked::Fails;
+            return None;
         }
         list = cell.b;
         rest = t.b;
@@ -151,21 +150,14 @@ fn check_fills(
     requires { ArgsAsk (ListAt (is_type table.now) table.now) table.now stack.old low.old depth l context }
     ensures { Told depth (filled table.now (binders stack.old depth) l context) (among_terms table.now l) stack.old low.old stack.new low.new result }
 {
-    let mut list = l;
-    let mut rest = context;
-    while list != NONE {
-        if rest == NONE {
+    let mut types = elements(table, context);
+    for at in elements(table, l) {
+        let Some(ty) = types.next() else {
+            return false;
+        };
+        if !names(table, stack, depth, at, ty) && !check_term(table, stack, low, depth, at, ty) {
             return false;
         }
-        let t = read(table, rest);
-        let cell = read(table, list);
-        if !names(table, stack, depth, cell.a, t.a) {
-            if !check_term(table, stack, low, depth, cell.a, t.a) {
-                return false;
-            }
-        }
-        list = cell.b;
-        rest = t.b;
     }
-    rest == NONE
+    types.list == NONE
 }

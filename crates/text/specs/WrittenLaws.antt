@@ -13,18 +13,14 @@ unfoldable pub overlaid : ℕ → Bytes → List ℕ → List ℕ
 overlaid at [] out = out
 overlaid at (b ∷ t) out = overlaid (at + 1) t (set out at b)
 
+-- one byte, and one that lies past the buffer's end
 module _ (out : List ℕ) (at b : ℕ) where
-  pub written_inside : at < length out → length out ≤ most → written at (b ∷ []) out ≡ (set out at b, at + 1)
+  pub written_byte : written at (b ∷ []) out ≡ (set out at b, min (at + 1) most)
   unfolding written
-  written_inside h l = let m : min (at + 1) most ≡ at + 1 = omega arith in rw m
+  written_byte = refl
 
-  pub written_past : length out ≤ at → at < most → written at (b ∷ []) out ≡ (out, at + 1)
-  unfolding written
-  written_past h l = let m : min (at + 1) most ≡ at + 1 = omega arith in rw (m, set_out out at b h)
-
-  pub written_farthest : length out ≤ at → at ≡ most → written at (b ∷ []) out ≡ (out, at)
-  unfolding written
-  written_farthest h l = let m : min (at + 1) most ≡ at = omega arith in rw (m, set_out out at b h)
+  pub written_past : length out ≤ at → written at (b ∷ []) out ≡ (out, min (at + 1) most)
+  written_past h = written_byte ∙ rw (set_out out at b h)
 
 pub written_none : (at : ℕ) (out : List ℕ) → written at [] out ≡ (out, at)
 unfolding written

@@ -11,21 +11,15 @@ ghost use Rattle.text.specs.Notation.{letter as letterOf, head_text, list_text, 
 use rules::Reply;
 use table::Hole;
 
-// The largest number that an end can be.
-const MOST: usize = 18446744073709551615;
-
-// A byte is written if it fits; the index past it is returned, at most the largest.
+// A byte is written if it fits; the index past it is returned, at most the largest. `Display` would not say that: a full writer ends it with an
+// error, and where the text would end stays unsaid. The buffer and its end are two parameters, and no struct, as the slices of the machine (`store`).
 pub fn put(out: &mut [u8], at: usize, byte: u8) -> usize
     ensures { written at (byte ∷ []) out.old ≡ (out.new, result) }
 {
     if at < out.len() {
         out[at] = byte;
-        return at + 1;
     }
-    if at == MOST {
-        return at;
-    }
-    at + 1
+    at.saturating_add(1)
 }
 
 // A number in decimal.

@@ -1,18 +1,16 @@
 -- The equations, one after another: what each adds, and what is ahead.
+use Rattle.std.specs.Prelude.{Some, None, Ok, Err}
 use Prim.Native.Nat.{ℕ, ◌+◌, ◌*◌, ◌<◌, ◌≤◌, min}
 use mathlib.Core.Path.{◌≡◌, refl, sym, ap, ◌∙◌}
 use mathlib.Core.List.{List, [], ◌∷◌, map}
 use mathlib.Core.Bool.{Bool, true, false, not}
 use native.Mathlib.Omega.{arith}
 use native.Mathlib.Numerals.{add-one}
-use borrow.Author.Tests.{ne_eqb, eqb-true, not-false}
-use lib.ListN.{length, get_or, take, drop, drop_of_length-le}
-use lib.Seq.{length-take-le, drop-cons, get_or-take}
-use mir.Syntax.{w32}
-use mir.Val.{Fits}
+use borrow.Author.Tests.{ne_eqb, eqb-true, not-false, not-true}
+use lib.ListN.{length, get_or, drop, drop_of_length-le}
+use lib.Seq.{drop-cons}
 use Rattle.table.specs.declared.Record.{Record}
 use Rattle.table.specs.Reading.{IsRecord}
-use Rattle.rules.specs.declared.Found.TheVariants.{At, Nowhere}
 use Rattle.rules.specs.Lists.{both, those, below, least, enough}
 use Rattle.rules.specs.Words.{NONE, EQ, field_a, field_b, has}
 use Rattle.rules.specs.Typing.{checks, typed, ill_typed}
@@ -22,7 +20,7 @@ use Rattle.laws.specs.Sound.{equation_fields}
 use Rattle.laws.specs.Members.{none, every_at}
 use Rattle.laws.specs.Places.{TermAt, Sides, sides_at}
 use Rattle.heads.specs.Stack.{binders}
-use Rattle.typing.specs.declared.Judged.TheVariants.{Fine, IllTyped, NoPattern}
+use Rattle.rules.specs.declared.Refused.TheVariants.{IllTyped, NoPattern}
 use Rattle.terms.specs.Asks.{TermAsks, Told}
 use Rattle.typing.specs.Asks.{sides, EquationAsks, JudgeAsks, Offends}
 use Rattle.typing.specs.Judging.{judged, Judges}
@@ -50,23 +48,23 @@ module _ (ws st : List ℕ) (low e : ℕ) (p : EquationAsks ws st low e) where
     left-asks = rw i.a_is (side-asks st low (field_a ws e) refl (omega arith) both-sides.left (equation_fields ws p.top p.legal.sound e p.within p.is).0.0)
 
     module _ (st₁ : List ℕ) (low₁ : ℕ) (b : Bool) (h : Told 0 (checks enough ws (binders st 0) x.a x.c) (offence enough ws x.a) st low st₁ low₁ b) where
-      pub right_asks : b ≡ true → length st₁ ≡ length st → TermAsks ws st₁ low₁ 0 x.b x.c
+      pub right_asks : not b ≡ false → length st₁ ≡ length st → TermAsks ws st₁ low₁ 0 x.b x.c
       right_asks t n =
-          let q = h.lowest t in
+          let q = h.lowest (not-false _ t) in
           rw i.b_is (side-asks st₁ low₁ (field_b ws e) n (omega arith) both-sides.right (equation_fields ws p.top p.legal.sound e p.within p.is).1.0)
 
-      pub left-fails : b ≡ false → Offends ws e low low₁ true
+      pub left-fails : not b ≡ true → Offends ws e low low₁ (not b)
       unfolding typed both binders
-      left-fails t = record { says = rw (← i.a_is, ← i.b_is, ← i.c_is, ← h.says, t); lowest = λ f. absurd (false_true (sym f)) }
+      left-fails t = record { says = rw (← i.a_is, ← i.b_is, ← i.c_is, ← h.says, not-true _ t); lowest = λ f. absurd (false_true (sym f ∙ t)) }
 
-      pub right_says : (st₂ : List ℕ) (low₂ : ℕ) (y : Bool) → b ≡ true
+      pub right_says : (st₂ : List ℕ) (low₂ : ℕ) (y : Bool) → not b ≡ false
           → Told 0 (checks enough ws (binders st₁ 0) x.b x.c) (offence enough ws x.b) st₁ low₁ st₂ low₂ y
           → Offends ws e low low₂ (not y)
       unfolding typed both binders sides
       right_says st₂ low₂ y t g =
-          let q = h.lowest t in
+          let q = h.lowest (not-false _ t) in
           record {
-            says = rw (← i.a_is, ← i.b_is, ← i.c_is, ← h.says, t, ← g.says);
+            says = rw (← i.a_is, ← i.b_is, ← i.c_is, ← h.says, not-false _ t, ← g.says);
             lowest = λ f. let o = g.lowest (not-false _ f) in rw (← i.a_is, ← i.b_is) (omega arith);
           }
 
@@ -90,72 +88,58 @@ unfolding still
 still_low ws es = least_low NONE _
 
 -- the first i of the equations are passed
-pub record Gone (ws st₀ es : List ℕ) (k : ℕ) (st : List ℕ) (low i : ℕ) : Type 0 where
-  pub asks : JudgeAsks ws st₀ es k
+pub record Gone (ws st₀ es st : List ℕ) (low i : ℕ) : Type 0 where
+  pub asks : JudgeAsks ws st₀ es
   pub same_length : length st ≡ length st₀
-  pub ill : first_of (fails ws) (take k es) ≡ first_of (fails ws) (drop i (take k es))
-  pub off : still ws (take k es) ≡ min low (still ws (drop i (take k es)))
+  pub ill : first_of (fails ws) es ≡ first_of (fails ws) (drop i es)
+  pub off : still ws es ≡ min low (still ws (drop i es))
   pub few : low ≤ NONE
 
-pub gone_none : (ws st es : List ℕ) (k : ℕ) → JudgeAsks ws st es k → Gone ws st es k st NONE 0
-gone_none ws st es k a = let l = still_low ws (take k es) in record { asks = a; same_length = refl; ill = refl; off = omega arith; few = omega arith }
+pub gone_none : (ws st es : List ℕ) → JudgeAsks ws st es → Gone ws st es st NONE 0
+gone_none ws st es a = let l = still_low ws es in record { asks = a; same_length = refl; ill = refl; off = omega arith; few = omega arith }
 
 -- what is found in the list is judged
-module _ (ws es : List ℕ) (k : ℕ) where
-  ill_noted : (n : ℕ) → take k es ≡ those (λ e. has ws e EQ) (below n) → ill_typed ws n ≡ first_of (fails ws) (take k es)
+module _ (ws es : List ℕ) where
+  ill_noted : (n : ℕ) → es ≡ those (λ e. has ws e EQ) (below n) → ill_typed ws n ≡ first_of (fails ws) es
   unfolding ill_typed
   ill_noted n q = rw q (lowest-those (λ e. has ws e EQ) (fails ws) n)
 
-  off_noted : (n : ℕ) → take k es ≡ those (λ e. has ws e EQ) (below n) → no_pattern ws n ≡ still ws (take k es)
+  off_noted : (n : ℕ) → es ≡ those (λ e. has ws e EQ) (below n) → no_pattern ws n ≡ still ws es
   unfolding no_pattern still sides
   off_noted n q = rw q
 
-  module _ (e : ℕ) (f : first_of (fails ws) (take k es) ≡ At e) where
-    ill_judges : Judges ws es k (IllTyped e)
+  module _ (e : ℕ) (f : first_of (fails ws) es ≡ Some e) where
+    ill_judges : Judges ws es (Err (IllTyped e))
     unfolding judged
     ill_judges = record { says = λ n q. rw (ill_noted n q ∙ f, judged) }
 
-  module _ (low : ℕ) (f : first_of (fails ws) (take k es) ≡ Nowhere) (o : still ws (take k es) ≡ low) where
-    fine_judges : low ≡ NONE → Judges ws es k Fine
+  module _ (low : ℕ) (f : first_of (fails ws) es ≡ None) (o : still ws es ≡ low) where
+    fine_judges : low ≡ NONE → Judges ws es (Ok tt)
     unfolding judged
     fine_judges z = record { says = λ n q. rw (ill_noted n q ∙ f, off_noted n q ∙ o, z, judged) }
 
-    low_judges : (low ≡ NONE → ⊥) → Judges ws es k (NoPattern low)
+    low_judges : (low ≡ NONE → ⊥) → Judges ws es (Err (NoPattern low))
     unfolding judged
     low_judges z = record { says = λ n q. rw (ill_noted n q ∙ f, off_noted n q ∙ o, ne_eqb _ _ z, judged, off_noted n q ∙ o) }
 
-module _ (ws st₀ es : List ℕ) (k : ℕ) (st : List ℕ) (low i : ℕ) (p : Gone ws st₀ es k st low i) where
-  noted_length : length (take k es) ≡ k
-  noted_length = length-take-le k es p.asks.held
-
-  pub gone_reads : i < k → i < length es
-  gone_reads h = let l = p.asks.held in omega arith
-
-  module _ (h : i < k) (e : ℕ) (is : get_or es i 0 ≡ e) where
-    next : drop i (take k es) ≡ e ∷ drop (i + 1) (take k es)
-    next =
-        let l = noted_length in
-        let g : i < length (take k es) = omega arith in
-        rw (add-one i, drop-cons (take k es) i 0 g, get_or-take k es i 0 h, is)
+module _ (ws st₀ es st : List ℕ) (low i : ℕ) (p : Gone ws st₀ es st low i) where
+  module _ (h : i < length es) (e : ℕ) (is : get_or es i 0 ≡ e) where
+    next : drop i es ≡ e ∷ drop (i + 1) es
+    next = rw (add-one i, drop-cons es i 0 h, is)
 
     pub equation_asks : EquationAsks ws st low e
     unfolding has
     equation_asks =
         let r = p.asks.room in
         let l = p.same_length in
-        let n = noted_length in
-        let q = every_at (λ x. (x < p.asks.top) × (has ws x EQ ≡ true)) (take k es) i (omega arith) (rw p.asks.noted (those_every (λ e. has ws e EQ) p.asks.top)) in
-        let m : get_or (take k es) i 0 ≡ e = get_or-take k es i 0 h ∙ is in
-        record { top = p.asks.top; legal = p.asks.legal; within = rw m at q.0; is = eqb-true _ _ (rw m at q.1); room = omega arith; few = p.few }
-
-    pub equation_fits : Fits w32 e
-    equation_fits = let l = equation_asks.within in let f = equation_asks.legal.few in record { fits = omega arith }
+        let q = every_at (λ x. (x < p.asks.top) × (has ws x EQ ≡ true)) es i (omega arith) (rw p.asks.noted (those_every (λ e. has ws e EQ) p.asks.top)) in
+        record { top = p.asks.top; legal = p.asks.legal; within = rw is at q.0; is = eqb-true _ _ (rw is at q.1); room = omega arith; few = p.few }
 
     module _ (low₁ : ℕ) (b : Bool) (o : Offends ws e low low₁ b) where
-      pub equation_fails : b ≡ true → Judges ws es k (IllTyped e)
-      equation_fails t = ill_judges ws es k e (p.ill ∙ ap (first_of (fails ws)) next ∙ first_stop (fails ws) e _ (sym o.says ∙ t))
+      pub equation_fails : b ≡ true → Judges ws es (Err (IllTyped e))
+      equation_fails t = ill_judges ws es e (p.ill ∙ ap (first_of (fails ws)) next ∙ first_stop (fails ws) e _ (sym o.says ∙ t))
 
-      pub gone_more : (st₁ : List ℕ) → length st₁ ≡ length st → b ≡ false → Gone ws st₀ es k st₁ low₁ (i + 1)
+      pub gone_more : (st₁ : List ℕ) → length st₁ ≡ length st → b ≡ false → Gone ws st₀ es st₁ low₁ (i + 1)
       unfolding still least
       gone_more st₁ l t =
           let off = rw next at p.off in
@@ -169,20 +153,20 @@ module _ (ws st₀ es : List ℕ) (k : ℕ) (st : List ℕ) (low i : ℕ) (p : G
             few = omega arith;
           }
 
-  module _ (h : k ≤ i) where
-    ended : drop i (take k es) ≡ []
-    ended = let l = noted_length in let g : length (take k es) ≤ i = omega arith in drop_of_length-le (take k es) g
+  module _ (h : length es ≤ i) where
+    ended : drop i es ≡ []
+    ended = drop_of_length-le es h
 
-    all_check : first_of (fails ws) (take k es) ≡ Nowhere
+    all_check : first_of (fails ws) es ≡ None
     unfolding first_of
     all_check = rw ended at p.ill
 
-    lowest_is : still ws (take k es) ≡ low
+    lowest_is : still ws es ≡ low
     unfolding still least
     lowest_is = let off = rw ended at p.off in let few = p.few in omega arith
 
-    pub all_fine : low ≡ NONE → Judges ws es k Fine
-    all_fine = fine_judges ws es k low all_check lowest_is
+    pub all_fine : low ≡ NONE → Judges ws es (Ok tt)
+    all_fine = fine_judges ws es low all_check lowest_is
 
-    pub some_offend : (low ≡ NONE → ⊥) → Judges ws es k (NoPattern low)
-    some_offend = low_judges ws es k low all_check lowest_is
+    pub some_offend : (low ≡ NONE → ⊥) → Judges ws es (Err (NoPattern low))
+    some_offend = low_judges ws es low all_check lowest_is

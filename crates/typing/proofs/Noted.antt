@@ -1,24 +1,23 @@
 -- The equations in a list: what each is, and the first that fails.
+use Rattle.std.specs.Prelude.{Option, ℕ, Some, None}
 use Prim.Native.Nat.{ℕ, zero, suc, ◌+◌, ◌<◌}
 use mathlib.Core.Path.{◌≡◌, refl}
 use mathlib.Core.List.{List, [], ◌∷◌}
 use mathlib.Core.Bool.{Bool, true, false}
 use native.Mathlib.Omega.{arith}
-use Rattle.rules.specs.declared.Found.{Found}
-use Rattle.rules.specs.declared.Found.TheVariants.{At, Nowhere}
 use Rattle.rules.specs.Lists.{both, those, from, below, first, lowest}
 use Rattle.laws.specs.Members.{Every, none, more, every_so}
 
 -- the first of a list that passes
-unfoldable pub first_of : (ℕ → Bool) → List ℕ → Found
-first_of ok [] = Nowhere
-first_of ok (x ∷ xs) = elim (ok x) [ true ↦ At x | false ↦ first_of ok xs ]
+unfoldable pub first_of : (ℕ → Bool) → List ℕ → Option ℕ
+first_of ok [] = None
+first_of ok (x ∷ xs) = elim (ok x) [ true ↦ Some x | false ↦ first_of ok xs ]
 
 pub first_on : (ok : ℕ → Bool) (x : ℕ) (xs : List ℕ) → ok x ≡ false → first_of ok (x ∷ xs) ≡ first_of ok xs
 unfolding first_of
 first_on ok x xs e = rw (e, first_of)
 
-pub first_stop : (ok : ℕ → Bool) (x : ℕ) (xs : List ℕ) → ok x ≡ true → first_of ok (x ∷ xs) ≡ At x
+pub first_stop : (ok : ℕ → Bool) (x : ℕ) (xs : List ℕ) → ok x ≡ true → first_of ok (x ∷ xs) ≡ Some x
 unfolding first_of
 first_stop ok x xs e = rw (e, first_of)
 
@@ -30,7 +29,7 @@ module _ (p : ℕ → Bool) where
   first-those q (suc k) i = go (p i) refl (first-those q k (i + 1))
     where
       other : (b : Bool) → q i ≡ b → first k (λ e. both (p e) (q e)) (i + 1) ≡ first_of q (those p (from (i + 1) k))
-          → elim (q i) as (λ c. Found) [ true ↦ At i | false ↦ first k (λ e. both (p e) (q e)) (i + 1) ] ≡ first_of q (i ∷ those p (from (i + 1) k))
+          → elim (q i) as (λ c. Option ℕ) [ true ↦ Some i | false ↦ first k (λ e. both (p e) (q e)) (i + 1) ] ≡ first_of q (i ∷ those p (from (i + 1) k))
       other true e ih = rw (e, first_of)
       other false e ih = rw (e, first_of) ih
 

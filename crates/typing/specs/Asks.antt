@@ -1,5 +1,5 @@
 -- What the functions of this crate ask, and what is said of one equation.
-use Rattle.std.specs.Prelude.{ℕ, ◌<◌, ◌≤◌, min, ◌≡◌, List, Bool, false, not, length, take}
+use Rattle.std.specs.Prelude.{ℕ, ◌<◌, ◌≤◌, min, ◌≡◌, List, Bool, false, not, length}
 use Rattle.rules.specs.Lists.{those, below, enough}
 use Rattle.rules.specs.Words.{NONE, EQ, tag, field_a, field_b, has}
 use Rattle.rules.specs.Typing.{typed}
@@ -20,12 +20,11 @@ pub record EquationAsks (ws st : List ℕ) (low e : ℕ) : Type 0 where
   pub few : low ≤ NONE
 
 -- a legal table, its equations noted, and room for the binders of each term
-pub record JudgeAsks (ws st es : List ℕ) (k : ℕ) : Type 0 where
+pub record JudgeAsks (ws st es : List ℕ) : Type 0 where
   pub top : ℕ
   pub legal : Legal ws top
   pub room : top ≤ length st
-  pub held : k ≤ length es
-  pub noted : take k es ≡ those (λ e. has ws e EQ) (below top)
+  pub noted : es ≡ those (λ e. has ws e EQ) (below top)
 
 -- the answer b of equation e, which fails if a side does not check; if it passes, the lowest offending occurrence so far counts those within
 pub record Offends (ws : List ℕ) (e low low₁ : ℕ) (b : Bool) : Type 0 where

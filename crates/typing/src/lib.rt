@@ -5,16 +5,9 @@
 ghost use Rattle.typing.specs.Asks.{EquationAsks, JudgeAsks, Offends};
 ghost use Rattle.typing.specs.Judging.{Judges};
 
+use rules::Refused;
 use table::{NONE, read};
 use terms::check_term;
-
-// All equations check and all hole occurrences are patterns; or the lowest ill-typed equation, or the lowest offending occurrence.
-#[derive(Clone, Copy)]
-pub enum Judged {
-    Fine,
-    IllTyped(u32),
-    NoPattern(u32),
-}
 
 // Equation e has a side that does not check.
 fn offends(table: &[u32], stack: &mut [u16], low: &mut u32, e: u32) -> bool
@@ -22,28 +15,24 @@ fn offends(table: &[u32], stack: &mut [u16], low: &mut u32, e: u32) -> bool
     ensures { Offends table.now e low.old low.new result }
 {
     let x = read(table, e);
-    if check_term(table, stack, low, 0, x.a, x.c) {
-        return !check_term(table, stack, low, 0, x.b, x.c);
-    }
-    true
+    !check_term(table, stack, low, 0, x.a, x.c) || !check_term(table, stack, low, 0, x.b, x.c)
 }
 
-// The equations, which are noted, are judged, 6 before 7, with room on the stack for the binders of each term.
-pub fn judge(table: &[u32], stack: &mut [u16], equations: &[u16], count: usize) -> Judged
-    requires { JudgeAsks table.now stack.old equations.now count }
-    ensures { Judges table.now equations.now count result }
+// The equations are judged, 6 before 7, with room on the stack for the binders of each term: all check and all hole occurrences are patterns,
+// or the lowest ill-typed equation, or the lowest offending occurrence. `low` is NONE while none offends, as the definition has it: so the lowest
+// of two is a `min`.
+pub fn judge(table: &[u32], stack: &mut [u16], equations: &[u16]) -> Result<(), Refused>
+    requires { JudgeAsks table.now stack.old equations.now }
+    ensures { Judges table.now equations.now result }
 {
     let mut low = NONE;
-    let mut i = 0;
-    while i < count {
-        let e = equations[i] as u32;
-        if offends(table, stack, &mut low, e) {
-            return Judged::IllTyped(e);
+    for &e in equations {
+        if offends(table, stack, &mut low, e as u32) {
+            return Err(Refused::IllTyped(e as u32));
         }
-        i += 1;
     }
-    if low == NONE {
-        return Judged::Fine;
+    if low != NONE {
+        return Err(Refused::NoPattern(low));
     }
-    Judged::NoPattern(low)
+    Ok(())
 }

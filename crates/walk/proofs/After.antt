@@ -1,4 +1,5 @@
 -- After an argument was walked: the rest of the list is as ready as it was.
+use Rattle.std.specs.Prelude.{Option}
 use Prim.Native.Nat.{ℕ, suc, ◌+◌}
 use mathlib.Core.Path.{◌≡◌}
 use mathlib.Core.List.{List}
@@ -7,6 +8,7 @@ use native.Mathlib.Nat.{le_refl}
 use borrow.Author.Tests.{ne_eqb}
 use Rattle.table.specs.declared.Record.{Record}
 use Rattle.table.specs.Reading.{IsRecord}
+use Rattle.table.specs.declared.Hole.{Hole}
 use Rattle.places.specs.declared.Map.{Map}
 use Rattle.rules.specs.Words.{NONE, elements}
 use Rattle.rules.specs.Store.{Store, goes}
@@ -36,7 +38,7 @@ record Later (R n : ℕ) (home : ℕ → ℕ) (s s₁ : Store) : Type 0 where
 later : {barred : ℕ → Type 0} {Q : (ℕ → ℕ) → Store → ℕ → Type 0} {R n : ℕ} {home : ℕ → ℕ} {s s₁ : Store} {y : ℕ} → Grown barred Q R n home s s₁ y → Later R n home s s₁
 later g = record { home₁ = g.home₁; ext = record { grown = g.ext.grown; kept = g.ext.kept; labels = g.ext.labels; none = λ q a b t z. z }; fine = g.fine }
 
-module _ {R n u : ℕ} {m : Map} {ws ss : List ℕ} {used F d l : ℕ} (h : ReadyList R n u m ws ss used F d l) (ne : l ≡ NONE → ⊥) (w : Record) (e : IsRecord ws l w) (ws₁ ss₁ : List ℕ) (u₁ y : ℕ)
+module _ {R n : ℕ} {u : Option Hole} {m : Map} {ws ss : List ℕ} {used F d l : ℕ} (h : ReadyList R n u m ws ss used F d l) (ne : l ≡ NONE → ⊥) (w : Record) (e : IsRecord ws l w) (ws₁ ss₁ : List ℕ) (u₁ y : ℕ)
     (g : writer R u (suc (reach R F (suc w.a))) (map_at F m) d w.a (store ws ss used) ≡ goes (store ws₁ ss₁ u₁) y) where
   abbrev fuel : ℕ
   fuel = suc (reach R F (suc w.a))
@@ -54,11 +56,11 @@ module _ {R n u : ℕ} {m : Map} {ws ss : List ℕ} {used F d l : ℕ} (h : Read
             later (rw c at (copy_grows R n h.on.top fuel (map_at F m) d w.a (store ws ss used) h.home h.at.fine (record { below = p.below; term = p.term; up = omega arith }) h.on.low (omega arith) (omega arith))),
             rw e.b_is (copied_rest ne h.at.known (map_at F m) (rw (ne_eqb F 0 a) (full_less full i)) _ (rw e.a_is at c)),
           )
-      go (solving z lt fi) =
+      go (solving u z lt fi) =
           let lo = (list_cell h.at ne w e).lower.0 in
-          let c = rw (walks R u fuel z) at g in (
-            later (rw c at (kept R n u used F h.on.top fuel (map_at F m) d w.a (store ws ss used) h.home h.at.fine (le_refl _) lt (list_first h.at ne w e).is h.on.low (omega arith) (omega arith))),
-            rw e.b_is (walked_rest ne h.at.known _ u (map_at F m) (rw e.a_is at c)),
+          let c = rw (walks R _ fuel u z) at g in (
+            later (rw c at (kept R n u.0 used F h.on.top fuel (map_at F m) d w.a (store ws ss used) h.home h.at.fine (le_refl _) lt (list_first h.at ne w e).is h.on.low (omega arith) (omega arith))),
+            rw e.b_is (walked_rest ne h.at.known _ u.0 (map_at F m) (rw e.a_is at c)),
           )
 
   pub after_same : elements ws₁ w.b ≡ elements ws w.b

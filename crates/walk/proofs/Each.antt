@@ -1,4 +1,5 @@
 -- What the walk of an argument list asks, argument by argument.
+use Rattle.std.specs.Prelude.{Option}
 use Prim.Native.Nat.{ℕ, suc, ◌+◌, ◌*◌, ◌<◌}
 use mathlib.Core.Path.{◌≡◌}
 use mathlib.Core.List.{List}
@@ -6,6 +7,7 @@ use native.Mathlib.Omega.{arith}
 use lib.ListN.{length}
 use Rattle.table.specs.declared.Record.{Record}
 use Rattle.table.specs.Reading.{IsRecord}
+use Rattle.table.specs.declared.Hole.{Hole}
 use Rattle.places.specs.declared.Map.{Map}
 use Rattle.rules.specs.Words.{NONE}
 use Rattle.rules.specs.Store.{Store}
@@ -18,7 +20,7 @@ use Rattle.walk.specs.Ready.{ReadyTerm, ReadyList}
 use Rattle.walk.proofs.First.{first_ready}
 use Rattle.walk.proofs.After.{after_same, after_ready}
 
-module _ (R n u : ℕ) (m : Map) (F d : ℕ) where
+module _ (R n : ℕ) (u : Option Hole) (m : Map) (F d : ℕ) where
   abbrev Term : Store → ℕ → Type 0
   Term s r = ReadyTerm R n u m s.words s.solutions s.used F d r
 
@@ -37,11 +39,11 @@ module _ (R n u : ℕ) (m : Map) (F d : ℕ) where
         rest = λ s l h ne w e c s₁ y g lw. (after_ready h ne w e s₁.words s₁.solutions s₁.used y g, after_same h ne w e s₁.words s₁.solutions s₁.used y g);
       }
 
--- after k arguments: what they were written as, and what is left
-abbrev pub Turn : ℕ → ℕ → ℕ → Map → List ℕ → List ℕ → ℕ → ℕ → ℕ → ℕ → List ℕ → List ℕ → List ℕ → ℕ → ℕ → ℕ → Type 0
-Turn R n u m ws₀ ss₀ used₀ F d l₀ ws ss noted k used l = Loop (writer R u) (λ s. s.words) (Term R n u m F d) (All R n u m F d) R R n F (map_at F m) d ws₀ ss₀ used₀ l₀ ws ss noted k used l
+-- after some arguments: what they were written as, and what is left
+abbrev pub Turn : ℕ → ℕ → Option Hole → Map → List ℕ → List ℕ → ℕ → ℕ → ℕ → ℕ → List ℕ → List ℕ → List ℕ → ℕ → ℕ → Type 0
+Turn R n u m ws₀ ss₀ used₀ F d l₀ ws ss noted used l = Loop (writer R u) (λ s. s.words) (Term R n u m F d) (All R n u m F d) R R n F (map_at F m) d ws₀ ss₀ used₀ l₀ ws ss noted used l
 
-module _ {R n u : ℕ} {m : Map} {ws₀ ss₀ : List ℕ} {used₀ F d l₀ : ℕ} {ws ss noted : List ℕ} {k used l : ℕ} (h : Turn R n u m ws₀ ss₀ used₀ F d l₀ ws ss noted k used l) (ne : l ≡ NONE → ⊥) where
+module _ {R n : ℕ} {u : Option Hole} {m : Map} {ws₀ ss₀ : List ℕ} {used₀ F d l₀ : ℕ} {ws ss noted : List ℕ} {used l : ℕ} (h : Turn R n u m ws₀ ss₀ used₀ F d l₀ ws ss noted used l) (ne : l ≡ NONE → ⊥) where
   pub turn_read : 4 * l + 3 < length ws
   turn_read = read h ne
 

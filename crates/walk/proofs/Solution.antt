@@ -1,11 +1,12 @@
 -- A copy of a solution, its context variables renamed to the arguments of the occurrence.
+use Rattle.std.specs.Prelude.{None}
 use Prim.Native.Nat.{ℕ, ◌+◌, ◌*◌, ◌<◌}
 use mathlib.Core.Path.{◌≡◌, refl, sym}
 use mathlib.Core.List.{List}
 use mathlib.Core.Bool.{false}
 use native.Mathlib.Omega.{arith}
 use lib.ListN.{length, length-map}
-use Rattle.store.specs.declared.Walked.{Walked}
+use Rattle.store.specs.Said.{Answer}
 use Rattle.places.specs.declared.Map.{Map}
 use Rattle.table.specs.declared.Record.{Record}
 use Rattle.table.specs.Reading.{IsRecord}
@@ -50,15 +51,15 @@ module _ {R n : ℕ} {ws ss : List ℕ} {used r t : ℕ} (h : Copying R n ws ss 
       full : Full (map_of false m) m.len
       full = rw (named, ← as_many) (record { place_at = λ j lt. (nth (variables ws r) j, place-variables (variables ws r) j lt) })
 
-      pub copying_ready : ReadyTerm R n NONE m ws ss used 1 0 t
+      pub copying_ready : ReadyTerm R n None m ws ss used 1 0 t
       copying_ready =
           record {
             home = h.home;
             scope = length (variables ws r);
             at = record { fine = h.fine; is = h.is; known = h.known };
-            on = record { whole = p.whole; top = limit r; low = rw named (names_low h); led = copying refl (λ z. omega arith) full (names_fit h) };
+            on = record { top = limit r; low = rw named (names_low h); led = copying refl (λ z. omega arith) full (names_fit h) };
             within = λ _. let k = as_many in omega arith;
           }
 
-      pub solution_copied : (ws₁ ss₁ : List ℕ) (x : Walked) → WalksTerm R n NONE m ws ss used 1 0 t ws₁ ss₁ x → CopiesSolution R n ws ss used r t ws₁ ss₁ x
-      solution_copied ws₁ ss₁ x c = record { run = λ f hf. rw (← named, ← copies R NONE f refl) (c.run f hf); grown = c.grown }
+      pub solution_copied : (ws₁ ss₁ : List ℕ) (x : Answer) → WalksTerm R n None m ws ss used 1 0 t ws₁ ss₁ x → CopiesSolution R n ws ss used r t ws₁ ss₁ x
+      solution_copied ws₁ ss₁ x c = record { run = λ f hf. rw (← named, ← copies R None f refl) (c.run f hf); grown = c.grown }

@@ -1,13 +1,11 @@
 -- What a rigid head is written as: a constant as it is, a variable as its place; and whether it has no arguments.
-use Rattle.std.specs.Prelude.{ℕ, Bool, true, false, eqb}
-use Rattle.rules.specs.declared.Found.{Found}
-use Rattle.rules.specs.declared.Found.TheVariants.{At}
+use Rattle.std.specs.Prelude.{ℕ, Bool, true, false, eqb, Option, Some}
 use Rattle.table.specs.declared.Record.{Record}
 use Rattle.rules.specs.Words.{NONE, CA, VA}
 use Rattle.rules.specs.Map.{Map, place_of}
 
-unfoldable pub head_of : Map → ℕ → Record → Found
-head_of m d w = elim (eqb w.tag VA) [ true ↦ place_of m d w.a | false ↦ At w.a ]
+unfoldable pub head_of : Map → ℕ → Record → Option ℕ
+head_of m d w = elim (eqb w.tag VA) [ true ↦ place_of m d w.a | false ↦ Some w.a ]
 
 -- a rigid head without arguments
 unfoldable pub is_leaf : Record → Bool

@@ -1,10 +1,14 @@
 -- The bytes that are stored for a word, for a record and for records one after another are the rules'.
-use Prim.Native.Nat.{ℕ, suc, ◌+◌, ◌*◌, ◌/◌, ◌%◌, ◌<◌, ◌≤◌}
-use mathlib.Core.Path.{◌≡◌, refl}
-use mathlib.Core.List.{List, ◌++◌}
+use Prim.Native.Nat.{ℕ, suc, ◌+◌, ◌-◌, ◌*◌, ◌<◌, ◌≤◌}
+use mathlib.Core.Path.{◌≡◌, refl, sym, ◌∙◌}
+use mathlib.Core.List.{List, [], ◌∷◌, ◌++◌}
 use native.Mathlib.Omega.{arith}
-use lib.ListN.{length, get_or, set, drop}
-use lib.Seq.{sets}
+use lib.ListN.{length, drop}
+use lib.Seq.{sets, sets-eq, take_all}
+use borrow.Rule.Slice.PartMut.{put_mid}
+use mir.Syntax.{w32}
+use Rattle.std.specs.Int.{to_le_bytes}
+use Rattle.std.proofs.lemmas.Slice.{put_mid-paste}
 use Rattle.rules.specs.Words.{BT, AR, KO, HO, CE, LA, CA, VA, HA, EQ}
 use Rattle.rules.specs.File.{marks}
 use Rattle.rules.specs.FileWrite.{word_bytes, mark_bytes, record_bytes, file_bytes}
@@ -13,35 +17,36 @@ use Rattle.laws.specs.Rows.{rows_more}
 use Rattle.laws.specs.FileRows.{file_bytes-rows, length-record_bytes}
 use Rattle.table.specs.declared.Record.{Record}
 use Rattle.table.specs.Reading.{IsRecord}
-use Rattle.write.specs.Asks.{Known, IsMark, RecordAsks, RecordsAsk}
+use Rattle.write.specs.Asks.{Known, RecordAsks, RecordsAsk}
 
-pub mark_is : (t k m : ℕ) → t ≡ k → m / 256 ≡ (get_or marks k (0, 0)).0 → m % 256 ≡ (get_or marks k (0, 0)).1 → IsMark t m
-mark_is t k m e p q = rw e (record { first_byte = p; second_byte = q })
+pub mark_is : (t k : ℕ) (m : List ℕ) → t ≡ k → mark_bytes k ≡ m → mark_bytes t ≡ m
+mark_is t k m e p = rw e p
 
 past : (t k : ℕ) → k ≤ t → (t ≡ k → ⊥) → k + 1 ≤ t
 past t k l z = omega arith
 
 -- what is none of the other nine tags is EQ
-pub mark_last : (t : ℕ) → Known t → (t ≡ BT → ⊥) → (t ≡ AR → ⊥) → (t ≡ KO → ⊥) → (t ≡ HO → ⊥) → (t ≡ CE → ⊥) → (t ≡ LA → ⊥) → (t ≡ CA → ⊥) → (t ≡ VA → ⊥) → (t ≡ HA → ⊥) → IsMark t 17745
-unfolding marks
+pub mark_last : (t : ℕ) → Known t → (t ≡ BT → ⊥) → (t ≡ AR → ⊥) → (t ≡ KO → ⊥) → (t ≡ HO → ⊥) → (t ≡ CE → ⊥) → (t ≡ LA → ⊥) → (t ≡ CA → ⊥) → (t ≡ VA → ⊥) → (t ≡ HA → ⊥) → mark_bytes t ≡ 69 ∷ 81 ∷ []
+unfolding marks mark_bytes
 mark_last t k bt ar ko ho ce la ca va ha =
     let low = past t HA (past t VA (past t CA (past t LA (past t CE (past t HO (past t KO (past t AR (past t BT k.low bt) ar) ko) ho) ce) la) ca) va) ha in
     let high = k.high in
     let e : t ≡ EQ = omega arith in
-    mark_is t EQ 17745 e refl refl
+    mark_is t EQ _ e refl
 
-pub word-stored : (bs : List ℕ) (i w : ℕ)
-    → sets bs i (word_bytes w) ≡ set (set (set (set bs i (w % 256)) (i + 1) (w / 256 % 256)) (i + 2) (w / 65536 % 256)) (i + 3) (w / 16777216 % 256)
+-- bytes that are copied into a part are set one after another
+copied : (bs vs ys : List ℕ) (i k : ℕ) → ys ≡ vs → k ≡ i + length vs → k ≤ length bs → sets bs i vs ≡ put_mid i (k - i) bs ys
+copied bs vs ys i k e q h =
+    let n : length vs ≡ k - i = omega arith in
+    sets-eq vs bs i (omega arith) ∙ sym (put_mid-paste i (k - i) bs ys vs (length vs) e n refl ∙ rw (take_all (length vs) vs (omega arith)))
+
+pub word-stored : (bs ys : List ℕ) (i w : ℕ) → ys ≡ to_le_bytes w32 w → i + 3 < length bs → sets bs i (word_bytes w) ≡ put_mid i (i + 4 - i) bs ys
 unfolding word_bytes
-word-stored bs i w =
-    let one : i + 1 ≡ suc i = omega arith in
-    let two : i + 2 ≡ suc (suc i) = omega arith in
-    let three : i + 3 ≡ suc (suc (suc i)) = omega arith in
-    rw (one, two, three)
+word-stored bs ys i w e h = copied bs (word_bytes w) ys i (i + 4) e refl (omega arith)
 
-pub mark-stored : (bs : List ℕ) (i t m : ℕ) → IsMark t m → sets bs i (mark_bytes t) ≡ set (set bs i (m / 256)) (i + 1) (m % 256)
+pub mark-stored : (bs ys m : List ℕ) (i t : ℕ) → mark_bytes t ≡ m → ys ≡ m → i + 1 < length bs → sets bs i (mark_bytes t) ≡ put_mid i (i + 2 - i) bs ys
 unfolding mark_bytes
-mark-stored bs i t m k = let one : i + 1 ≡ suc i = omega arith in rw (one, ← k.first_byte, ← k.second_byte)
+mark-stored bs ys m i t e q h = copied bs (mark_bytes t) ys i (i + 2) (q ∙ sym e) refl (omega arith)
 
 -- a mark and three words are a record
 pub record_stored : (ws bs bs₀ bs₁ bs₂ bs₃ : List ℕ) (r : ℕ) (x : Record) → IsRecord ws r x → sets bs (14 * r) (mark_bytes x.tag) ≡ bs₀
@@ -70,6 +75,3 @@ module _ (ws bs₀ : List ℕ) (n : ℕ) (asks : RecordsAsk ws bs₀ n) where
       let room = asks.room in
       let fit : 14 * (r + 1) ≤ length bs₀ = omega arith in
       rw (← s, e, file_bytes-rows ws 0 r, file_bytes-rows ws 0 (r + 1)) (rows_more (record_bytes ws) 14 (length-record_bytes ws) bs₀ r fit)
-
-pub all-stored : (ws bs₀ bs : List ℕ) (r n : ℕ) → r ≤ n → n ≤ r → bs ≡ file_bytes ws 0 r ++ drop (14 * r) bs₀ → bs ≡ file_bytes ws 0 n ++ drop (14 * n) bs₀
-all-stored ws bs₀ bs r n g h e = let k : r ≡ n = omega arith in rw k at e

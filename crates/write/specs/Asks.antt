@@ -1,11 +1,14 @@
 -- What is known where records are judged, and where a mark and where a record is written.
-use Rattle.std.specs.Prelude.{ℕ, ◌+◌, ◌*◌, ◌/◌, ◌%◌, ◌<◌, ◌≤◌, ◌≡◌, List, length, get_or}
+use Rattle.std.specs.Prelude.{ℕ, ◌+◌, ◌*◌, ◌<◌, ◌≤◌, List, length, Result, Ok, Err}
+use Rattle.rules.specs.declared.Reply.{Reply}
+use Rattle.rules.specs.declared.Unwritten.{Unwritten}
+use Rattle.rules.specs.Answers.{reply, unwriting}
 use Rattle.rules.specs.Words.{BT, EQ, tag}
-use Rattle.rules.specs.File.{marks}
 use Rattle.laws.specs.Members.{Legal}
 
 -- the first n records, at most k, lie in the table
 pub record Within (k : ℕ) (ws : List ℕ) (n : ℕ) : Type 0 where
+  pub small : k ≤ 2048
   pub few : n ≤ k
   pub inside : 4 * n ≤ length ws
 
@@ -13,11 +16,6 @@ pub record Within (k : ℕ) (ws : List ℕ) (n : ℕ) : Type 0 where
 pub record Known (t : ℕ) : Type 0 where
   pub low : BT ≤ t
   pub high : t ≤ EQ
-
--- the two bytes of a tag's mark as one number
-pub record IsMark (t m : ℕ) : Type 0 where
-  pub first_byte : m / 256 ≡ (get_or marks t (0, 0)).0
-  pub second_byte : m % 256 ≡ (get_or marks t (0, 0)).1
 
 -- a tag has a mark, and the mark room in the file
 pub record MarkAsks (bs : List ℕ) (i t : ℕ) : Type 0 where
@@ -34,3 +32,8 @@ pub record RecordAsks (ws bs : List ℕ) (r : ℕ) : Type 0 where
 pub record RecordsAsk (ws bs : List ℕ) (n : ℕ) : Type 0 where
   pub legal : Legal ws n
   pub room : 14 * n ≤ length bs
+
+-- the reply to a table that is written, as so many records, or not
+abbrev pub said : Result ℕ Unwritten → Reply
+said (Ok used) = reply 0 0 used
+said (Err x) = unwriting x

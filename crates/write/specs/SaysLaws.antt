@@ -1,13 +1,11 @@
 -- What writing replies: an answer of at most 14, a place among the records, and no more used than a file has.
-use Rattle.std.specs.Prelude.{ℕ, ◌*◌, ◌<◌, ◌≤◌, ◌≡◌, Bool, List, length}
+use Rattle.std.specs.Prelude.{ℕ, ◌*◌, ◌<◌, ◌≤◌, ◌≡◌, Bool, List, length, Option, Some, None}
 use Rattle.std.proofs.Math.Path.{refl}
 use Rattle.std.proofs.Common.{ap}
 use Rattle.std.proofs.Math.Bool.{true, false}
 use native.Mathlib.Omega.{arith}
 use Rattle.std.proofs.Math.Dec.{ltb}
 use borrow.Author.Tests.{ltb-false}
-use Rattle.rules.specs.declared.Found.{Found}
-use Rattle.rules.specs.declared.Found.TheVariants.{At, Nowhere}
 use Rattle.rules.specs.declared.Reply.{Reply}
 use Rattle.rules.specs.Lists.{either}
 use Rattle.rules.specs.Answers.{records}
@@ -25,16 +23,16 @@ module _ (ws : List ℕ) (n : ℕ) (bs : List ℕ) where
   unfolding write either broken
   write_says = go (ltb (records ws) n) refl (ltb 2048 n) refl (broken ws n) refl (ltb (length bs) (14 * n)) refl
     where
-      go : (a : Bool) → ltb (records ws) n ≡ a → (b : Bool) → ltb 2048 n ≡ b → (f : Found) → broken ws n ≡ f → (c : Bool) → ltb (length bs) (14 * n) ≡ c
+      go : (a : Bool) → ltb (records ws) n ≡ a → (b : Bool) → ltb 2048 n ≡ b → (f : Option ℕ) → broken ws n ≡ f → (c : Bool) → ltb (length bs) (14 * n) ≡ c
           → Says (write ws n bs).said
       go true p b q f r c s = rw (p, write) (record { answer = omega arith; place = omega arith; used = omega arith })
       go false p true q f r c s = rw (p, q, write) (record { answer = omega arith; place = omega arith; used = omega arith })
-      go false p false q (At k) r c s =
+      go false p false q (Some k) r c s =
           let few : n ≤ 2048 = ltb-false _ _ q in
           let low = lowest-below n _ k r in
           rw (p, q, r, write) (record { answer = omega arith; place = omega arith; used = omega arith })
-      go false p false q Nowhere r true s = rw (p, q, r, s, write) (record { answer = omega arith; place = omega arith; used = omega arith })
-      go false p false q Nowhere r false s =
+      go false p false q None r true s = rw (p, q, r, s, write) (record { answer = omega arith; place = omega arith; used = omega arith })
+      go false p false q None r false s =
           let few : n ≤ 2048 = ltb-false _ _ q in
           rw (p, q, r, s, write) (record { answer = omega arith; place = omega arith; used = omega arith })
 

@@ -3,32 +3,32 @@
 
 ghost use Rattle.std.specs.Prelude.{◌≡◌, ◌++◌, ◌+◌, ◌*◌, ◌<◌, ◌≤◌, length, drop};
 ghost use Rattle.std.proofs.lemmas.List.Edits.{sets};
-ghost use Rattle.rules.specs.Answers.{reply as replyOf, unwriting as unwritingOf};
+ghost use Rattle.rules.specs.Answers.{unwriting as unwritingOf};
 ghost use Rattle.rules.specs.Records.{broken as brokenOf};
 ghost use Rattle.rules.specs.FileWrite.{word_bytes, mark_bytes, record_bytes, file_bytes, write as writeOf};
 ghost use Rattle.records.specs.Noting.{found_of};
-ghost use Rattle.write.specs.Asks.{Within, Known, IsMark, MarkAsks, RecordAsks, RecordsAsk};
+ghost use Rattle.write.specs.Asks.{Within, Known, MarkAsks, RecordAsks, RecordsAsk, said};
 
-use records::{Pass, broken};
-use rules::{Found, Reply, Unwritten};
-use table::read;
+use records::{Broken, Notes, find_broken};
+use rules::{Reply, Unwritten};
+use table::{read, reply};
 
-// The mark of a tag; each number below is two letters of the table of marks, the first times 256, and the last is that of EQ.
-fn mark_of(tag: u32) -> u16
+// The mark of a tag, which is one of the ten; no `From`, since a tag is a plain number.
+fn mark_of(tag: u32) -> [u8; 2]
     requires { Known tag }
-    ensures { IsMark tag result }
+    ensures { mark_bytes tag ≡ result }
 {
     match tag {
-        table::BT => 0x4254,
-        table::AR => 0x4152,
-        table::KO => 0x4B4F,
-        table::HO => 0x484F,
-        table::CE => 0x4345,
-        table::LA => 0x4C41,
-        table::CA => 0x4341,
-        table::VA => 0x5641,
-        table::HA => 0x4841,
-        _ => 0x4551,
+        table::BT => *b"BT",
+        table::AR => *b"AR",
+        table::KO => *b"KO",
+        table::HO => *b"HO",
+        table::CE => *b"CE",
+        table::LA => *b"LA",
+        table::CA => *b"CA",
+        table::VA => *b"VA",
+        table::HA => *b"HA",
+        _ => *b"EQ",
     }
 }
 
@@ -37,9 +37,7 @@ fn write_mark(file: &mut [u8], i: usize, tag: u32)
     requires { MarkAsks file.old i tag }
     ensures { sets file.old i (mark_bytes tag) ≡ file.new }
 {
-    let mark = mark_of(tag);
-    file[i] = (mark / 256) as u8;
-    file[i + 1] = (mark % 256) as u8;
+    file[i..i + 2].copy_from_slice(&mark_of(tag));
 }
 
 // The four bytes of a word from byte i on, little-endian.
@@ -47,10 +45,7 @@ fn write_word(file: &mut [u8], i: usize, w: u32)
     requires { i + 3 < length file.old }
     ensures { sets file.old i (word_bytes w) ≡ file.new }
 {
-    file[i] = (w % 256) as u8;
-    file[i + 1] = (w / 256 % 256) as u8;
-    file[i + 2] = (w / 65536 % 256) as u8;
-    file[i + 3] = (w / 16777216 % 256) as u8;
+    file[i..i + 4].copy_from_slice(&w.to_le_bytes());
 }
 
 // Record r of the table becomes file record r.
@@ -66,77 +61,37 @@ fn write_record(table: &[u32], file: &mut [u8], r: u32)
     write_word(file, at + 10, x.c);
 }
 
-// The first n records of the table become the first n file records.
+// The first n records of the table become the first n file records. Its like in `file` lends the other slice; what they share is one line.
 fn write_records(table: &[u32], file: &mut [u8], n: u32)
     requires { RecordsAsk table.now file.old n }
     ensures { file.new ≡ file_bytes table.now 0 n ++ drop (14 * n) file.old }
 {
-    let mut written: u32 = 0;
-    while written < n {
-        write_record(table, file, written);
-        written += 1;
+    for r in 0..n {
+        write_record(table, file, r);
     }
 }
 
-// The broken record that a pass found, if there is one.
-fn found_in(pass: Pass) -> Found
-    ensures { found_of pass ≡ result }
+// A pass over the first n records, with notes for at most N.
+fn pass<const N: usize>(table: &[u32], n: u32) -> Result<usize, Broken>
+    requires { Within N table.now n }
+    ensures { brokenOf table.now n ≡ found_of result }
 {
-    match pass {
-        Pass::Broken(r) => Found::At(r),
-        Pass::Sound(_) => Found::Nowhere,
-    }
+    let mut notes = Notes::<N>::blank();
+    find_broken(table, &mut notes, n)
 }
 
-// The lowest of the first n records that breaks a rule, with arrays for at most 256 records, which cost a small table little to clear.
-fn broken_few(table: &[u32], n: u32) -> Found
-    requires { Within 256 table.now n }
-    ensures { brokenOf table.now n ≡ result }
-{
-    let mut marks = [0u8; 256];
-    let mut last = [0u16; 256];
-    let mut before = [0u16; 256];
-    let mut equations = [0u16; 256];
-    let pass = broken(table, &mut marks, &mut last, &mut before, &mut equations, n);
-    found_in(pass)
-}
-
-// The same with arrays for as many records as a file can have.
-fn broken_all(table: &[u32], n: u32) -> Found
+// The first n records break no rule, or the lowest that breaks one: small tables clear small notes.
+fn refuse_broken(table: &[u32], n: u32) -> Result<usize, Broken>
     requires { Within 2048 table.now n }
-    ensures { brokenOf table.now n ≡ result }
-{
-    let mut marks = [0u8; 2048];
-    let mut last = [0u16; 2048];
-    let mut before = [0u16; 2048];
-    let mut equations = [0u16; 2048];
-    let pass = broken(table, &mut marks, &mut last, &mut before, &mut equations, n);
-    found_in(pass)
-}
-
-// The lowest of the first n records that breaks a rule: small tables clear small arrays.
-fn lowest_broken(table: &[u32], n: u32) -> Found
-    requires { Within 2048 table.now n }
-    ensures { brokenOf table.now n ≡ result }
+    ensures { brokenOf table.now n ≡ found_of result }
 {
     if n <= 256 {
-        return broken_few(table, n);
+        return pass::<256>(table, n);
     }
-    broken_all(table, n)
+    pass::<2048>(table, n)
 }
 
-// A reply with nothing used.
-fn reply(answer: u32, place: u32) -> Reply
-    ensures { replyOf answer place 0 ≡ result }
-{
-    Reply {
-        answer,
-        place,
-        used: 0,
-    }
-}
-
-// The reply to each table that is not written.
+// The reply to each table that is not written. It is no `From`: both types are of the crate of rules, which has no function.
 fn unwriting(unwritten: Unwritten) -> Reply
     ensures { unwritingOf unwritten ≡ result }
 {
@@ -147,30 +102,32 @@ fn unwriting(unwritten: Unwritten) -> Reply
     }
 }
 
+// The first n records of a table are written, and are counted; or 4, then 5, then 14, with nothing written in each case.
+fn try_write(table: &[u32], n: usize, file: &mut [u8]) -> Result<u32, Unwritten>
+    ensures { writeOf table.now n file.old ≡ record { file = file.new; said = said result } }
+{
+    if 2048 < n || table.len() / 4 < n {
+        return Err(Unwritten::TooMany);
+    }
+    let count = n as u32;
+    refuse_broken(table, count)?;
+    if file.len() / 14 < n {
+        return Err(Unwritten::ShortFile);
+    }
+    write_records(table, file, count);
+    Ok(count)
+}
+
 // The first n records of a table are written to a file: 4, then 5, then 14, with nothing written in each case; bytes past the file stay.
-#[tactic(auto, using(crate::proofs::Ending::above_most))]
 pub fn write(table: &[u32], n: usize, file: &mut [u8]) -> Reply
     ensures { writeOf table.now n file.old ≡ record { file = file.new; said = result } }
 {
-    if 2048 < n {
-        return unwriting(Unwritten::TooMany);
-    }
-    if table.len() / 4 < n {
-        return unwriting(Unwritten::TooMany);
-    }
-    let count = n as u32;
-    match lowest_broken(table, count) {
-        Found::At(r) => unwriting(Unwritten::Broken(r)),
-        Found::Nowhere => {
-            if file.len() / 14 < n {
-                return unwriting(Unwritten::ShortFile);
-            }
-            write_records(table, file, count);
-            Reply {
-                answer: 0,
-                place: 0,
-                used: count,
-            }
-        }
+    match try_write(table, n, file) {
+        Ok(used) => Reply {
+            answer: 0,
+            place: 0,
+            used,
+        },
+        Err(unwritten) => unwriting(unwritten),
     }
 }

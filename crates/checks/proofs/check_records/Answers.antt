@@ -3,8 +3,8 @@ use Rattle.records.specs.ZerosLaws.{zeros_ask}
 use Rattle.checks.proofs.Order.{solving-sound}
 use Rattle.checks.proofs.check_records.Goals as goal
 
-pub refuse-refusal-requires : goal.refuse-refusal-requires
-refuse-refusal-requires c = search (zeros_ask 4096 (omega arith))
+pub refuse-requires : goal.refuse-requires
+refuse-requires c = (omega arith, zeros_ask 4096 _ c.blank-notes.ensures _ _ c.requires.0 c.requires.0 c.requires.1)
 
 pub returns : goal.returns
 returns c = search solving-sound

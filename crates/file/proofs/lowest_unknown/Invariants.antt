@@ -1,5 +1,5 @@
 -- The records passed have known marks.
-use Rattle.std.proofs.Common.{◌≡◌, ◌≤◌, ◌-◌, not}
+use Rattle.std.proofs.Common.{◌≡◌, ◌≤◌, not}
 use Rattle.rules.specs.Lists.{lowest}
 use Rattle.rules.specs.File.{marked, is_known}
 use Rattle.laws.specs.Search.{ahead}
@@ -7,6 +7,3 @@ use Rattle.file.proofs.lowest_unknown.Given as goal
 
 abbrev pub invariant-loop-r : goal.invariant-loop-r
 invariant-loop-r l = (l.r ≤ l.n) × (lowest l.n (λ j. not (is_known (marked l.file j))) ≡ ahead l.n (λ j. not (is_known (marked l.file j))) l.r)
-
-abbrev pub decreases-loop-r : goal.decreases-loop-r
-decreases-loop-r l = l.n - l.r

@@ -1,8 +1,8 @@
--- The sum of the bytes is the word.
+-- The word is that of its four bytes.
 use Rattle.std.proofs.Common.{arith}
 use Rattle.rules.specs.File.{word}
 use Rattle.file.proofs.word_at.Goals as goal
 
 pub returns : goal.returns
 unfolding word
-returns c = omega arith
+returns c = omega (arith, c.from_le_bytes.ensures)

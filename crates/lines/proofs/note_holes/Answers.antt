@@ -1,4 +1,4 @@
-use Rattle.lines.proofs.Noting.{passed_none, passed_asks, passed_more, passed_fits, passed_all}
+use Rattle.lines.proofs.Noting.{passed_none, passed_asks, passed_more, passed_all}
 use Rattle.lines.proofs.note_holes.Goals as goal
 
 pub loop-r-init : goal.loop-r-init
@@ -9,9 +9,6 @@ note-count-requires c = search passed_asks
 
 pub loop-r-preserved : goal.loop-r-preserved
 loop-r-preserved c = search passed_more
-
-pub shape_of-holes : goal.shape_of-holes
-shape_of-holes c = search passed_fits
 
 pub returns : goal.returns
 returns c = search passed_all

@@ -1,17 +1,22 @@
-use Rattle.machine.proofs.Numbers.{is_clash, is_escape, is_occurs, is_queue_full, is_table_full}
+use Rattle.rules.specs.Answers.{number}
 use Rattle.machine.proofs.number_of.Goals as goal
 
 pub returns-in-Clash : goal.returns-in-Clash
-returns-in-Clash c = search (is_clash, is_escape, is_occurs, is_queue_full, is_table_full)
+unfolding number
+returns-in-Clash c = rw c.in-Clash.is
 
 pub returns-in-Escape : goal.returns-in-Escape
-returns-in-Escape c = search (is_clash, is_escape, is_occurs, is_queue_full, is_table_full)
+unfolding number
+returns-in-Escape c = rw c.in-Escape.is
 
 pub returns-in-Occurs : goal.returns-in-Occurs
-returns-in-Occurs c = search (is_clash, is_escape, is_occurs, is_queue_full, is_table_full)
+unfolding number
+returns-in-Occurs c = rw c.in-Occurs.is
 
 pub returns-in-QueueFull : goal.returns-in-QueueFull
-returns-in-QueueFull c = search (is_clash, is_escape, is_occurs, is_queue_full, is_table_full)
+unfolding number
+returns-in-QueueFull c = rw c.in-QueueFull.is
 
 pub returns-in-TableFull : goal.returns-in-TableFull
-returns-in-TableFull c = search (is_clash, is_escape, is_occurs, is_queue_full, is_table_full)
+unfolding number
+returns-in-TableFull c = rw c.in-TableFull.is

@@ -1,8 +1,7 @@
-use Rattle.machine.proofs.Pairs.{pairs_less, pairs-most}
+use mathlib.Core.Path.{sym}
+use Rattle.rules.specs.Answers.{pairs}
 use Rattle.machine.proofs.pairs_of.Goals as goal
 
-pub returns-then-k-lt1024 : goal.returns-then-k-lt1024
-returns-then-k-lt1024 c = search (pairs_less, pairs-most)
-
 pub returns : goal.returns
-returns c = search (pairs_less, pairs-most)
+unfolding pairs
+returns c = sym c.min.ensures

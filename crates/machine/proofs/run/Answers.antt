@@ -1,8 +1,8 @@
-use Rattle.invariants.specs.Running.{ahead}
-use mathlib.Core.List.{◌∷◌}
-use Rattle.queue.specs.Ring.{view}
-use Rattle.queue.specs.RingLaws.{fine_front, fine_some}
-use Rattle.machine.proofs.Turning.{Waits, turn_first, turn_stood, turn_fails, on_less, turn_on, turn_ends, turn_waits, takes_less, turn_takes}
+use mathlib.Core.Path.{ap, ◌∙◌}
+use Rattle.std.specs.Prelude.{Ok}
+use Rattle.step.specs.declared.Step.{Step}
+use Rattle.store.specs.SaidLaws.{failure_passed}
+use Rattle.machine.proofs.Turning.{turn_first, turn_stood, turn_fails, on_less, turn_on, turn_ends, takes_less, turn_takes}
 use Rattle.machine.proofs.run.Goals as goal
 
 pub turns-init : goal.turns-init
@@ -11,46 +11,25 @@ turns-init c = search turn_first
 pub take_step-requires : goal.take_step-requires
 take_step-requires c = search turn_stood
 
-pub returns-in-Failed : goal.returns-in-Failed
-returns-in-Failed c = search turn_fails
+pub returns-in_err-bodies : goal.returns-in_err-bodies
+returns-in_err-bodies c = search (turn_fails, c.in_err-bodies.was, failure_passed)
 
 pub turns-smaller-in-On : goal.turns-smaller-in-On
-turns-smaller-in-On c = search on_less
+turns-smaller-in-On c = search (on_less, c.in_ok-bodies.was)
 
 pub turns-preserved-in-On : goal.turns-preserved-in-On
-turns-preserved-in-On c = search turn_on
+turns-preserved-in-On c = search (turn_on, c.in_ok-bodies.was)
 
-pub returns-then-count-eq0 : goal.returns-then-count-eq0
-returns-then-count-eq0 c = search turn_ends
-
-pub peek-p-requires : goal.peek-p-requires
-peek-p-requires c =
-    let h : Waits c.args.room c.args.n c.args.cap ((c.args.left, c.args.right) ∷ view c.args.queue.now c.args.cap c.args.ring) c.args.table.now c.args.solutions.now c.args.n c.args.queue.now
-    (ahead c.args.room c.args.cap c.turns.u ((c.turns.l, c.turns.r) ∷ view c.turns.queue c.args.cap c.turns.g))
-    c.take_step.new.table c.take_step.new.solutions c.in-Done.u1 c.take_step.new.queue c.in-Done.g1 =
-    search turn_waits in
-    search fine_front
-
-pub leave-g-requires : goal.leave-g-requires
-leave-g-requires c =
-    let h : Waits c.args.room c.args.n c.args.cap ((c.args.left, c.args.right) ∷ view c.args.queue.now c.args.cap c.args.ring) c.args.table.now c.args.solutions.now c.args.n c.args.queue.now
-    (ahead c.args.room c.args.cap c.turns.u ((c.turns.l, c.turns.r) ∷ view c.turns.queue c.args.cap c.turns.g))
-    c.take_step.new.table c.take_step.new.solutions c.in-Done.u1 c.take_step.new.queue c.in-Done.g1 =
-    search turn_waits in
-    search fine_some
+pub returns-then-left-eq0 : goal.returns-then-left-eq0
+returns-then-left-eq0 c = search (turn_ends, c.in_ok-bodies.was)
 
 pub turns-smaller : goal.turns-smaller
-turns-smaller c =
-    let h : Waits c.args.room c.args.n c.args.cap ((c.args.left, c.args.right) ∷ view c.args.queue.now c.args.cap c.args.ring) c.args.table.now c.args.solutions.now c.args.n c.args.queue.now
-    (ahead c.args.room c.args.cap c.turns.u ((c.turns.l, c.turns.r) ∷ view c.turns.queue c.args.cap c.turns.g))
-    c.take_step.new.table c.take_step.new.solutions c.in-Done.u1 c.take_step.new.queue c.in-Done.g1 =
-    search turn_waits in
-    search takes_less
+turns-smaller c = search (takes_less, c.in_ok-bodies.was)
 
 pub turns-preserved : goal.turns-preserved
 turns-preserved c =
-    let h : Waits c.args.room c.args.n c.args.cap ((c.args.left, c.args.right) ∷ view c.args.queue.now c.args.cap c.args.ring) c.args.table.now c.args.solutions.now c.args.n c.args.queue.now
-    (ahead c.args.room c.args.cap c.turns.u ((c.turns.l, c.turns.r) ∷ view c.turns.queue c.args.cap c.turns.g))
-    c.take_step.new.table c.take_step.new.solutions c.in-Done.u1 c.take_step.new.queue c.in-Done.g1 =
-    search turn_waits in
+    let is = c.in_ok-bodies.was ∙ ap (λ (step : Step). Ok step) c.in-Done.is in
+    let turn = c.turns.invariant in
+    let took = c.take_step.ensures in
+    let long = c.take_step.auto.queue in
     search turn_takes

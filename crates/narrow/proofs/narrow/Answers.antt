@@ -1,18 +1,15 @@
-use Rattle.narrow.proofs.Narrowing.{narrowing_read, narrowing_chooses, narrowing_room, narrowing_settles, narrow_goes}
-use borrow.Author.Rules.{rules}
+use Rattle.store.specs.SaidLaws.{failure_passed}
+use Rattle.narrow.proofs.Narrowing.{context_stops, hole_stops, solution_stops, narrow_goes}
 use Rattle.narrow.proofs.narrow.Goals as goal
 
-pub read-old-requires : goal.read-old-requires
-read-old-requires c = search narrowing_read
+pub returns-in_err-cells : goal.returns-in_err-cells
+returns-in_err-cells c = search (context_stops, c.in_err-cells.was, failure_passed)
 
-pub push_context-cells-requires : goal.push_context-cells-requires
-push_context-cells-requires c = search narrowing_chooses
+pub returns-in_err-written : goal.returns-in_err-written
+returns-in_err-written c = search (hole_stops, c.in_ok-cells.was, c.in_err-written.was, failure_passed)
 
-pub then_under-new-requires : goal.then_under-new-requires
-then_under-new-requires c = (search narrowing_room, search rules)
-
-pub then_settle-requires : goal.then_settle-requires
-then_settle-requires c = search narrowing_settles
+pub returns-in_err-applied : goal.returns-in_err-applied
+returns-in_err-applied c = search (solution_stops, c.in_ok-cells.was, c.in_ok-written.was, c.in_err-applied.was, failure_passed)
 
 pub returns : goal.returns
-returns c = search narrow_goes
+returns c = search (narrow_goes, c.in_ok-cells.was, c.in_ok-written.was, c.in_ok-applied.was)

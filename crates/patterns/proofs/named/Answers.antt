@@ -1,23 +1,19 @@
-use Rattle.patterns.proofs.Turns.{left-all, cell_inside, element_inside, rest_less, named_end, named_here, named_on}
+use borrow.Author.Rules.{rules}
+use Rattle.table.proofs.Lists.{element_inside}
+use Rattle.patterns.proofs.Turns.{named_end, named_here, named_on}
 use Rattle.patterns.proofs.named.Goals as goal
 
-pub loop-list-init : goal.loop-list-init
-loop-list-init c = search left-all
+pub read-requires : goal.read-requires
+read-requires c = let steps = c.in-Some.ensures.steps in search element_inside
 
-pub read-cell-requires : goal.read-cell-requires
-read-cell-requires c = search cell_inside
+pub returns-then-read-v : goal.returns-then-read-v
+returns-then-read-v c = let steps = c.in-Some.ensures.steps in search named_here
 
-pub read-x-requires : goal.read-x-requires
-read-x-requires c = search element_inside
-
-pub returns-then-x-v : goal.returns-then-x-v
-returns-then-x-v c = search named_here
-
-pub loop-list-smaller : goal.loop-list-smaller
-loop-list-smaller c = search rest_less
-
-pub loop-list-preserved : goal.loop-list-preserved
-loop-list-preserved c = search named_on
+pub loop-at-preserved : goal.loop-at-preserved
+loop-at-preserved c =
+    let steps = c.in-Some.ensures.steps in
+    let goes = c.in-Some.ensures.goes in
+    (search rules, search rules, search rules, search named_on)
 
 pub returns : goal.returns
-returns c = search named_end
+returns c = let steps = c.in-None.ensures.steps in search named_end

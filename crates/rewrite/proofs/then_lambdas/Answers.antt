@@ -1,17 +1,18 @@
-use Rattle.rewrite.proofs.Lambdas.{turn_first, turn_room, turn_since, turn_same, turn_ends, turn_next}
+use Rattle.store.specs.SaidLaws.{failure_passed}
+use Rattle.rewrite.proofs.Lambdas.{turn_first, turn_room, turn_since, turn_stops, turn_next, turn_ends}
 use Rattle.rewrite.proofs.then_lambdas.Goals as goal
 
-pub loop-left-init : goal.loop-left-init
-loop-left-init c = search turn_first
+pub loop-init : goal.loop-init
+loop-init c = search turn_first
 
-pub then_under-walked-requires : goal.then_under-walked-requires
-then_under-walked-requires c = (search turn_room, search turn_since)
+pub push-requires : goal.push-requires
+push-requires c = (search turn_room, search turn_since)
 
-pub loop-left-preserved : goal.loop-left-preserved
-loop-left-preserved c = search turn_next
+pub returns-in_err-written : goal.returns-in_err-written
+returns-in_err-written c = search (turn_stops, c.in_err-written.was, failure_passed)
 
-pub shape_of-table : goal.shape_of-table
-shape_of-table c = search turn_same
+pub loop-preserved : goal.loop-preserved
+loop-preserved c = search (turn_next, c.in_ok-written.was)
 
 pub returns : goal.returns
 returns c = search turn_ends

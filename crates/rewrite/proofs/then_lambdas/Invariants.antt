@@ -1,8 +1,5 @@
 use Rattle.rewrite.proofs.Lambdas.{Turn}
 use Rattle.rewrite.proofs.then_lambdas.Given as goal
 
-abbrev pub invariant-loop-left : goal.invariant-loop-left
-invariant-loop-left l = Turn l.n l.room l.k l.initial.table l.initial.walked l.table l.walked l.left
-
-abbrev pub decreases-loop-left : goal.decreases-loop-left
-decreases-loop-left l = l.left
+abbrev pub invariant-loop : goal.invariant-loop
+invariant-loop l = Turn l.part.n l.part.room l.k l.initial.table l.initial.written l.table l.written l.counter

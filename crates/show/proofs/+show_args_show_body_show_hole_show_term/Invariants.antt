@@ -1,4 +1,5 @@
 use Prim.Native.Nat.{suc}
+use mathlib.Core.Path.{◌≡◌}
 use Rattle.laws.specs.Lists.{size}
 use Rattle.invariants.specs.Rise.{reach}
 use Rattle.show.proofs.Shows.{Gives}
@@ -20,11 +21,11 @@ decreases-show_hole l = 2 * reach 4096 l.task.floor 4097
 abbrev pub decreases-show_term : goal.decreases-show_term
 decreases-show_term l = 2 * reach 4096 l.task.floor (suc l.at) + 1
 
-abbrev pub invariant-show_args-loop-left : goal.invariant-show_args-loop-left
-invariant-show_args-loop-left l = Turn l.task.room l.map l.table l.solutions l.initial.output l.used l.task.floor l.depth l.list l.output l.noted l.k l.taken l.left
-
-abbrev pub decreases-show_args-loop-left : goal.decreases-show_args-loop-left
-decreases-show_args-loop-left l = size l.left
+abbrev pub invariant-show_args-loop-argument : goal.invariant-show_args-loop-argument
+invariant-show_args-loop-argument l =
+    goal.iterator-show_args-loop-argument.can_next l.argument-iterator × goal.iterator-show_args-loop-argument.is_finite l.argument-iterator
+    × (l.argument-iterator.table.now ≡ l.table)
+    × Turn l.task.room l.map l.table l.solutions l.initial.output l.used l.task.floor l.depth l.list l.output l.noted.items l.taken l.argument-iterator.list
 
 abbrev pub invariant-show_term-loop-rec : goal.invariant-show_term-loop-rec
 invariant-show_term-loop-rec l = Below (ReadyTerm l.task.room l.map l.table l.solutions l.output l.task.floor) (λ s. Gives l.task.room l.map l.table s l.output l.used l.task.floor) l.task.room l.table l.output l.depth l.at l.inner l.term l.rec

@@ -7,11 +7,11 @@ fill-requires c = search blank-fits
 pub answer-requires : goal.answer-requires
 answer-requires c = search answers
 
-pub fill-requires-in-Failed : goal.fill-requires-in-Failed
-fill-requires-in-Failed c = search finishing
+pub fill-requires-in-Err : goal.fill-requires-in-Err
+fill-requires-in-Err c = search finishing
 
-pub returns-in-Root : goal.returns-in-Root
-returns-in-Root c = search writes
+pub returns-in-Ok : goal.returns-in-Ok
+returns-in-Ok c = search writes
 
-pub returns-in-Failed : goal.returns-in-Failed
-returns-in-Failed c = search writes_none
+pub returns-in-Err : goal.returns-in-Err
+returns-in-Err c = search writes_none

@@ -1,25 +1,15 @@
-use Rattle.std.proofs.Common.{rules}
-use Rattle.checks.specs.Refusing.{asks}
-use Rattle.solving.proofs.Leaving.{Decided, decided}
+use Rattle.std.proofs.Common.{arith}
+use Rattle.solving.proofs.Leaving.{blank-serve, left_refused, settled_admits, left_solved}
 use Rattle.solving.proofs.check_and_solve.Goals as goal
 
+pub refuse-requires : goal.refuse-requires
+refuse-requires g c = let small = c.requires.small in (omega arith, blank-serve _ _ c.blank-notes.ensures _ _ _ c.requires)
+
 pub machine-requires : goal.machine-requires
-machine-requires c =
-    let at_refusal : Decided (asks c.args.asked c.args.table.now c.args.n) c.args.table.now c.args.solutions.now c.refuse.new.equations c.args.n c.refuse.result =
-    decided _ _ _ _ _ _ _ _ _ _ c.requires c.refuse.ensures in
-    at_refusal.admits _ _ c.room_of-room.ensures (search rules)
+machine-requires g c = settled_admits _ _ _ _ _ _ _ c.requires c.refuse.ensures _ _ c.room_of.ensures c.in-Ok.is
 
-pub returns-in-Refused : goal.returns-in-Refused
-returns-in-Refused c =
-    let at_refusal : Decided (asks c.args.asked c.args.table.now c.args.n) c.args.table.now c.args.solutions.now c.refuse.new.equations c.args.n c.refuse.result =
-    decided _ _ _ _ _ _ _ _ _ _ c.requires c.refuse.ensures in
-    let left = at_refusal.refused in
-    search left
+pub returns-in-Err : goal.returns-in-Err
+returns-in-Err g c = left_refused _ _ _ _ _ _ _ c.requires c.refuse.ensures _ _ _ c.in-Err.is c.refusing.ensures
 
-pub returns-in-Admitted : goal.returns-in-Admitted
-returns-in-Admitted c =
-    let at_refusal : Decided (asks c.args.asked c.args.table.now c.args.n) c.args.table.now c.args.solutions.now c.refuse.new.equations c.args.n c.refuse.result =
-    decided _ _ _ _ _ _ _ _ _ _ c.requires c.refuse.ensures in
-    let left = at_refusal.solved in
-    let ran = c.machine.ensures in
-    search left
+pub returns-in-Ok : goal.returns-in-Ok
+returns-in-Ok g c = left_solved _ _ _ _ _ _ _ c.requires c.refuse.ensures _ _ _ c.in-Ok.is c.machine.ensures

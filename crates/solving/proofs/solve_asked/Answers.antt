@@ -8,13 +8,13 @@ returns-then-out_of_room c = search left-outside
 pub overflow_cast-n : goal.overflow_cast-n
 overflow_cast-n c = search inside_fits
 
-pub check_few-requires : goal.check_few-requires
-check_few-requires c =
-    inside_few _ _ _ _ c.out_of_room.ensures c.if-out_of_room.false 256 (omega arith)
+pub check_and_solve-requires : goal.check_and_solve-requires
+check_and_solve-requires c =
+    inside_few _ _ _ _ c.out_of_room.ensures c.if-out_of_room.false 256 (omega arith) (omega arith)
 
 pub overflow_cast-n-2 : goal.overflow_cast-n-2
 overflow_cast-n-2 c = search inside_fits
 
-pub check_all-requires : goal.check_all-requires
-check_all-requires c =
+pub check_and_solve-requires-2 : goal.check_and_solve-requires-2
+check_and_solve-requires-2 c =
     inside_most _ _ _ _ c.out_of_room.ensures c.if-out_of_room.false

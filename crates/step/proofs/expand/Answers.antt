@@ -1,29 +1,24 @@
-use Rattle.step.proofs.Expanding.{turn_first, turn_same, turn_held, turn_heads, turn_done, turn_copies, turn_fails, turn_less, turn_next}
+use Rattle.store.specs.SaidLaws.{failure_passed}
+use Rattle.step.proofs.Expanding.{turn_first, turn_heads, turn_done, turn_copies, turn_fails, turn_less, turn_next}
 use Rattle.step.proofs.expand.Goals as goal
 
-pub loop-n-init : goal.loop-n-init
-loop-n-init c = search turn_first
+pub loop-solution-init : goal.loop-solution-init
+loop-solution-init c = search turn_first
 
-pub head_solution-solution-requires : goal.head_solution-solution-requires
-head_solution-solution-requires c = search turn_heads
-
-pub returns-then-solution : goal.returns-then-solution
-returns-then-solution c = search turn_done
+pub head_solution-requires : goal.head_solution-requires
+head_solution-requires c = search turn_heads
 
 pub copy_solution-requires : goal.copy_solution-requires
 copy_solution-requires c = search turn_copies
 
-pub shape_of-table-in-Failed : goal.shape_of-table-in-Failed
-shape_of-table-in-Failed c = search turn_same
+pub returns-in_err-side : goal.returns-in_err-side
+returns-in_err-side c = rw (failure_passed _ _ c.from_residual.ensures.1) (search (turn_fails, c.in_err-side.was))
 
-pub shape_of-solutions-in-Failed : goal.shape_of-solutions-in-Failed
-shape_of-solutions-in-Failed c = search turn_held
+pub loop-solution-smaller : goal.loop-solution-smaller
+loop-solution-smaller c = search (turn_less, c.in_ok-side.was)
 
-pub returns-in-Failed : goal.returns-in-Failed
-returns-in-Failed c = search turn_fails
+pub loop-solution-preserved : goal.loop-solution-preserved
+loop-solution-preserved c = search (turn_next, c.in_ok-side.was)
 
-pub loop-n-smaller : goal.loop-n-smaller
-loop-n-smaller c = search turn_less
-
-pub loop-n-preserved : goal.loop-n-preserved
-loop-n-preserved c = search turn_next
+pub returns : goal.returns
+returns c = search turn_done

@@ -1,14 +1,14 @@
 use Rattle.step.proofs.Choosing.{meets_bodies, meets_same, meets_arguments, meets_left, meets_right, meets_clash}
 use Rattle.step.proofs.meets.Goals as goal
 
-pub returns-then-two_lambdas : goal.returns-then-two_lambdas
-returns-then-two_lambdas c = search meets_bodies
+pub returns-then-two-eq-LA : goal.returns-then-two-eq-LA
+returns-then-two-eq-LA c = search meets_bodies
 
 pub returns-then-one-eq-HA : goal.returns-then-one-eq-HA
 returns-then-one-eq-HA c = search meets_same
 
-pub returns-then-same_head : goal.returns-then-same_head
-returns-then-same_head c = search meets_arguments
+pub returns-then-one-two-2 : goal.returns-then-one-two-2
+returns-then-one-two-2 c = search meets_arguments
 
 pub returns-then-one-eq-HA-2 : goal.returns-then-one-eq-HA-2
 returns-then-one-eq-HA-2 c = search meets_left

@@ -1,4 +1,5 @@
-use Rattle.step.proofs.Same.{same_read, same_occurs, same_narrows, same_all, same_some}
+use Rattle.store.specs.SaidLaws.{failure_passed}
+use Rattle.step.proofs.Same.{same_read, same_occurs, same_narrows, same_all, same_fails, same_some}
 use Rattle.step.proofs.same_hole.Goals as goal
 
 pub agreement-kept-requires : goal.agreement-kept-requires
@@ -10,8 +11,11 @@ returns-then-all_placed c = search same_all
 pub read-one-requires : goal.read-one-requires
 read-one-requires c = search same_read
 
-pub narrow-new-requires : goal.narrow-new-requires
-narrow-new-requires c = search same_narrows
+pub narrow-requires : goal.narrow-requires
+narrow-requires c = search same_narrows
+
+pub returns-in_err-new : goal.returns-in_err-new
+returns-in_err-new c = rw (failure_passed _ _ c.from_residual.ensures.1) (search (same_fails, c.in_err-new.was))
 
 pub returns : goal.returns
-returns c = search same_some
+returns c = search (same_some, c.in_ok-new.was)

@@ -1,17 +1,22 @@
+use mathlib.Core.Path.{◌≡◌}
+use Rattle.std.specs.Slice.Iter.{iter_rest}
+use Rattle.store.specs.SaidLaws.{failure_passed}
 use Rattle.store.proofs.Cells.{behind-first, behind-asks, behind_stops, behind_more, behind_end}
 use Rattle.store.proofs.push_cells.Goals as goal
 
-pub loop-i-init : goal.loop-i-init
-loop-i-init c = search behind-first
+pub loop-at-init : goal.loop-at-init
+loop-at-init c =
+    let e : iter_rest c.into_iter-at-iterator.result.iter ≡ c.args.noted.now = rw (c.into_iter-at-iterator.ensures.into_iter_gives, c.rev-at-items.ensures.source) c.iter.ensures.rest in
+    search (behind-first, e)
 
 pub push-requires : goal.push-requires
 push-requires c = search behind-asks
 
-pub returns-in-Failed : goal.returns-in-Failed
-returns-in-Failed c = search behind_stops
+pub returns-in_err-cells : goal.returns-in_err-cells
+returns-in_err-cells c = let s = c.in-Some.ensures.steps in search (behind_stops, s, c.in_err-cells.was, failure_passed)
 
-pub loop-i-preserved : goal.loop-i-preserved
-loop-i-preserved c = search behind_more
+pub loop-at-preserved : goal.loop-at-preserved
+loop-at-preserved c = let s = c.in-Some.ensures.steps in search (behind_more, s, c.in_ok-cells.was)
 
 pub returns : goal.returns
-returns c = search behind_end
+returns c = let s = c.in-None.ensures.steps in search (behind_end, s.0)

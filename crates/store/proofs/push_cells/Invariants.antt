@@ -1,8 +1,6 @@
+use Rattle.std.specs.Slice.Iter.{iter_rest}
 use Rattle.store.proofs.Cells.{Behind}
 use Rattle.store.proofs.push_cells.Given as goal
 
-abbrev pub invariant-loop-i : goal.invariant-loop-i
-invariant-loop-i l = Behind l.room l.n l.noted l.k l.initial.table l.used l.table l.i l.list l.taken
-
-abbrev pub decreases-loop-i : goal.decreases-loop-i
-decreases-loop-i l = l.i
+abbrev pub invariant-loop-at : goal.invariant-loop-at
+invariant-loop-at l = Behind l.part.room l.part.n l.noted l.initial.table l.fn.used l.table (iter_rest l.at-iterator.iter) l.cells

@@ -1,5 +1,6 @@
-use Rattle.places.specs.FillingLaws.{fits_index, fits_next}
-use Rattle.store.proofs.Writing.{named-first, named_slot, named_skip, named_stops, named-takes, named-cells, named_end}
+use native.Mathlib.Omega.{arith}
+use Rattle.store.specs.SaidLaws.{failure_passed}
+use Rattle.store.proofs.Writing.{named-first, named_slot, named_skip, named_stops, named-takes, named_end}
 use Rattle.store.proofs.push_variables.Goals as goal
 
 pub loop-i-init : goal.loop-i-init
@@ -8,23 +9,14 @@ loop-i-init c = search named-first
 pub loop-i-preserved-then-place : goal.loop-i-preserved-then-place
 loop-i-preserved-then-place c = search named_skip
 
-pub returns-in-Failed : goal.returns-in-Failed
-returns-in-Failed c = search named_stops
+pub returns-in_err-written : goal.returns-in_err-written
+returns-in_err-written c = search (named_stops, c.in_err-written.was, failure_passed)
 
-pub offset_bounds-noted-k : goal.offset_bounds-noted-k
-offset_bounds-noted-k c = search (fits_index, named_slot)
-
-pub bounds-noted-k : goal.bounds-noted-k
-bounds-noted-k c = search named_slot
-
-pub overflow_add-k : goal.overflow_add-k
-overflow_add-k c = search (fits_next, named_slot)
+pub push-requires-in-loop-i : goal.push-requires-in-loop-i
+push-requires-in-loop-i c = (omega arith, search named_slot)
 
 pub loop-i-preserved : goal.loop-i-preserved
-loop-i-preserved c = search named-takes
-
-pub push_cells-requires : goal.push_cells-requires
-push_cells-requires c = search named-cells
+loop-i-preserved c = search (named-takes, c.in_ok-written.was)
 
 pub returns : goal.returns
 returns c = search named_end

@@ -1,9 +1,6 @@
--- What was written lies in the bytes.
-use Rattle.std.proofs.Common.{◌-◌, ◌≤◌, length}
+-- What is left gets shorter.
+use Rattle.std.proofs.Common.{length}
 use Rattle.tanczotka.proofs.write_all.Given as goal
 
-abbrev pub invariant-loop-done : goal.invariant-loop-done
-invariant-loop-done g l = l.done ≤ length l.bytes
-
-abbrev pub decreases-loop-done : goal.decreases-loop-done
-decreases-loop-done g l = length l.bytes - l.done
+abbrev pub decreases-loop-rest : goal.decreases-loop-rest
+decreases-loop-rest g l = length l.rest

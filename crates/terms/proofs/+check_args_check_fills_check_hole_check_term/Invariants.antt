@@ -1,5 +1,6 @@
 use Prim.Native.Nat.{◌+◌, ◌*◌}
-use Rattle.laws.specs.Lists.{size}
+use mathlib.Core.Path.{◌≡◌}
+use Rattle.laws.specs.Lists.{size, Listed}
 use Rattle.terms.proofs.Arguments.{Counting}
 use Rattle.terms.proofs.Arguments.{Filling}
 use Rattle.terms.proofs.Terms.{InHand}
@@ -23,11 +24,11 @@ invariant-check_args-loop-left l = Counting l.table l.initial.stack l.initial.lo
 abbrev pub decreases-check_args-loop-left : goal.decreases-check_args-loop-left
 decreases-check_args-loop-left l = size l.list
 
-abbrev pub invariant-check_fills-loop-list : goal.invariant-check_fills-loop-list
-invariant-check_fills-loop-list l = Filling l.table l.initial.stack l.initial.low l.depth l.l l.context l.stack l.low l.list l.rest
-
-abbrev pub decreases-check_fills-loop-list : goal.decreases-check_fills-loop-list
-decreases-check_fills-loop-list l = size l.list
+abbrev pub invariant-check_fills-loop-at : goal.invariant-check_fills-loop-at
+invariant-check_fills-loop-at l =
+    goal.iterator-check_fills-loop-at.can_next l.at-iterator × goal.iterator-check_fills-loop-at.is_finite l.at-iterator
+    × Listed l.types.table.now l.types.list × (l.types.table.now ≡ l.table) × (l.at-iterator.table.now ≡ l.table)
+    × Filling l.table l.initial.stack l.initial.low l.depth l.l l.context l.stack l.low l.at-iterator.list l.types.list
 
 abbrev pub invariant-check_term-loop-stack : goal.invariant-check_term-loop-stack
 invariant-check_term-loop-stack l = InHand l.table l.initial.stack l.initial.low l.depth l.r l.ty l.stack l.low l.d l.at l.term

@@ -7,11 +7,11 @@ read-x-requires c = search equation_inside
 pub check_term-requires : goal.check_term-requires
 check_term-requires c = search left-asks
 
-pub check_term-requires-then-check_term : goal.check_term-requires-then-check_term
-check_term-requires-then-check_term c = search right_asks
+pub check_term-requires-else-not-check_term : goal.check_term-requires-else-not-check_term
+check_term-requires-else-not-check_term c = search right_asks
 
-pub returns-then-check_term : goal.returns-then-check_term
-returns-then-check_term c = search right_says
+pub returns-then-not-check_term : goal.returns-then-not-check_term
+returns-then-not-check_term c = search left-fails
 
-pub returns : goal.returns
-returns c = search left-fails
+pub returns-else-not-check_term : goal.returns-else-not-check_term
+returns-else-not-check_term c = search right_says

@@ -1,4 +1,5 @@
-use Rattle.walk.proofs.Assigning.{assign-read, assign-counts, assign_walks, assign_held, assigned}
+use Rattle.store.specs.SaidLaws.{failure_passed}
+use Rattle.walk.proofs.Assigning.{assign-read, assign-counts, assign_walks, assign_held, assign_stops, assigned}
 use Rattle.walk.proofs.assign.Goals as goal
 
 pub read-occ-requires : goal.read-occ-requires
@@ -7,11 +8,14 @@ read-occ-requires c = search assign-read
 pub arguments-map-requires : goal.arguments-map-requires
 arguments-map-requires c = search assign-counts
 
-pub walk_term-walked-requires : goal.walk_term-walked-requires
-walk_term-walked-requires c = search assign_walks
+pub walk_term-requires : goal.walk_term-requires
+walk_term-requires c = search assign_walks
 
-pub then_record-requires : goal.then_record-requires
-then_record-requires c = search assign_held
+pub returns-in_err-written : goal.returns-in_err-written
+returns-in_err-written c = search (assign_stops, c.in_err-written.was, failure_passed)
+
+pub bounds-solutions-hole : goal.bounds-solutions-hole
+bounds-solutions-hole c = search assign_held
 
 pub returns : goal.returns
-returns c = search assigned
+returns c = search (assigned, c.in_ok-written.was)

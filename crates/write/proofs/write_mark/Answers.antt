@@ -1,10 +1,6 @@
-use native.Mathlib.Omega.{arith}
-use lib.ListN.{length-set}
+use borrow.Author.Rules.{rules}
 use Rattle.write.proofs.Storing.{mark-stored}
 use Rattle.write.proofs.write_mark.Goals as goal
 
-pub bounds-file-i-2 : goal.bounds-file-i-2
-bounds-file-i-2 c = simp length-set (omega arith)
-
 pub returns : goal.returns
-returns c = search mark-stored
+returns c = mark-stored _ _ _ _ _ c.mark_of.ensures (search rules) c.requires.room

@@ -1,1 +1,0 @@
-pub mod Parts  -- the first words of a cleared array

@@ -1,0 +1,1 @@
+pub mod Lists  -- a list cell by cell, as its iterator goes
