@@ -23,8 +23,7 @@ use Rattle.rules.specs.Typing.{ill_typed}
 use Rattle.rules.specs.Pattern.{no_pattern}
 use Rattle.typing.specs.Judging.{judged, Judges}
 use Rattle.records.specs.declared.Broken.{Broken}
-use Rattle.records.specs.declared.Notes.{Notes}
-use Rattle.records.specs.Rows.{BrokenAsks}
+use Rattle.records.specs.Rows.{LentAsks}
 use Rattle.records.specs.Noting.{found_of, BrokenSays}
 use Rattle.rules.specs.Solve.{refused}
 use Rattle.laws.specs.Members.{broken_legal}
@@ -113,14 +112,14 @@ module _ (ws es : List ℕ) (n : ℕ) (x : Result ℕ Broken) (e : BrokenSays ws
     asked_refused b r s why t (Err w) e = settled b (Err w) (s ∙ rw (t, e.1)) (λ j z. absurd (let q : ◌≡◌ {A = ℕ} 0 1 = cc in omega arith))
     asked_refused b r s why t (Ok j) e = absurd (false_true e.0)
 
-    module _ {N : ℕ} (y : Notes N) (p : BrokenAsks ws y n) where
-      pub noted_held : k ≤ N
-      noted_held = let f = (e.noted k z).few in let room = p.room in omega arith
+    module _ (ms la be es₀ : List ℕ) (p : LentAsks ws ms la be es₀ n) (l : length es ≡ length es₀) where
+      pub noted_held : k ≤ length es
+      noted_held = let f = (e.noted k z).few in let h = p.equations in omega arith
 
       -- the marks of the last types are as many as the records at most: room for the binders of each term
-      pub asked-asks : (la : List ℕ) → length la ≡ N → AskedAsks ws la (take k es) n
-      asked-asks la m =
-          let room = p.room in
+      pub asked-asks : (la₁ : List ℕ) → length la₁ ≡ length la → AskedAsks ws la₁ (take k es) n
+      asked-asks la₁ m =
+          let room = p.blank.room.last in
           let legal = broken_legal ws n (p.few, p.inside) none in
           let noted = (e.noted k z).noted in
           record { legal = legal; noted = noted; judge = record { top = n; legal = legal; room = omega arith; noted = noted } }

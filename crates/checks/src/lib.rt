@@ -4,11 +4,11 @@
 ghost use Rattle.std.specs.Prelude.{◌≡◌, true, ◌*◌, ◌≤◌, length};
 ghost use Rattle.rules.specs.Answers.{refusing as refusingOf, records};
 ghost use Rattle.laws.specs.Members.{Legal};
-ghost use Rattle.records.specs.Rows.{BrokenAsks};
+ghost use Rattle.records.specs.Rows.{LentAsks, BrokenAsks};
 ghost use Rattle.checks.specs.Refusing.{refusal_of, outside, asks, asking, sound, is_hole, AskedAsks, Settled};
 ghost use Rattle.checks.specs.Order.{saying, checked};
 
-use records::{Notes, find_broken};
+use records::{Notes, lowest_broken};
 use rules::{Refused, Reply};
 use table::{HO, read, reply};
 use typing::judge;
@@ -69,6 +69,24 @@ fn refuse_asked(
 
 // What comes before the machine: answers 5, 10, 6 and 7, in this order, or how many equations there are, which are noted. Where no record is
 // broken, the marks have served, and those of the last types are lent on as the stack.
+pub fn refuse_lent(
+    table: &[u32],
+    marks: &mut [u8],
+    last: &mut [u16],
+    before: &mut [u16],
+    equations: &mut [u16],
+    n: u32,
+    asked: Option<usize>,
+) -> Result<usize, Refused>
+    requires { LentAsks table.now marks.old last.old before.old equations.old n }
+    ensures { Settled table.now equations.new n (asks asked table.now n) result }
+{
+    let count = lowest_broken(table, marks, last, before, equations, n)?;
+    refuse_asked(table, last, &equations[..count], n, asked)?;
+    Ok(count)
+}
+
+// The same with notes.
 pub fn refuse<const N: usize>(
     table: &[u32],
     notes: &mut Notes<N>,
@@ -78,9 +96,15 @@ pub fn refuse<const N: usize>(
     requires { BrokenAsks table.now notes.old n }
     ensures { Settled table.now notes.new.equations n (asks asked table.now n) result }
 {
-    let count = find_broken(table, notes, n)?;
-    refuse_asked(table, &mut notes.last, &notes.equations[..count], n, asked)?;
-    Ok(count)
+    refuse_lent(
+        table,
+        &mut notes.marks,
+        &mut notes.last,
+        &mut notes.before,
+        &mut notes.equations,
+        n,
+        asked,
+    )
 }
 
 // The reply to what comes before the machine: 0 where nothing is refused.

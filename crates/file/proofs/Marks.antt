@@ -1,10 +1,11 @@
 -- The tag of a mark, by its two bytes as one number.
 use Rattle.std.specs.Prelude.{Option, ℕ, Some, None, Bool, refl}
 use Rattle.std.specs.Option.{is_some}
-use Prim.Native.Nat.{ℕ}
+use Prim.Native.Nat.{ℕ, ◌+◌, ◌*◌, ◌<◌}
 use mathlib.Core.Path.{◌≡◌, sym}
 use mathlib.Core.Bool.{true, false, not}
 use mathlib.Core.List.{List}
+use native.Mathlib.Omega.{arith}
 use native.Mathlib.Decide.{ℕ_discrete}
 use lib.Dec.{eqb}
 use borrow.Author.Tests.{eq-eqb, ne_eqb}
@@ -25,22 +26,25 @@ unknown_by bs r None b e p = rw e (cases b p)
     cases true q = refl
     cases false q = sym q
 
-module _ (x y : ℕ) where
-  pub tag_known : (a b : ℕ) (f : Option ℕ) → x ≡ a → y ≡ b → tag_of a b ≡ f → tag_of x y ≡ f
-  tag_known a b f p q t = rw (p, q) t
+module _ (x y m : ℕ) (number : m ≡ 256 * x + y) (small : y < 256) where
+  pub tag_known : (a b : ℕ) (f : Option ℕ) → b < 256 → m ≡ 256 * a + b → tag_of a b ≡ f → tag_of x y ≡ f
+  tag_known a b f less e t =
+      let p : x ≡ a = omega arith in
+      let q : y ≡ b = omega arith in
+      rw (p, q) t
 
   -- the two bytes are not this mark
   abbrev pub Not : ℕ → ℕ → Type 0
-  Not a b = x ≡ a → y ≡ b → ⊥
+  Not a b = m ≡ 256 * a + b → ⊥
 
   unlike : (a b : ℕ) → Not a b → both (eqb a x) (eqb b y) ≡ false
   unfolding both
-  unlike a b n = go (ℕ_discrete x a) (ℕ_discrete y b)
+  unlike a b n = go (ℕ_discrete a x) (ℕ_discrete b y)
     where
-      go : Dec (x ≡ a) → Dec (y ≡ b) → both (eqb a x) (eqb b y) ≡ false
-      go (no p) q = rw (ne_eqb a x (λ e. p (sym e)))
-      go (yes p) (yes q) = absurd (n p q)
-      go (yes p) (no q) = rw (eq-eqb a x (sym p), ne_eqb b y (λ e. q (sym e)))
+      go : Dec (a ≡ x) → Dec (b ≡ y) → both (eqb a x) (eqb b y) ≡ false
+      go (no p) q = rw (ne_eqb _ _ p)
+      go (yes p) (yes q) = absurd (n (omega arith))
+      go (yes p) (no q) = rw (eq-eqb _ _ p, ne_eqb _ _ q)
 
   pub tag_unknown : Not 66 84 → Not 65 82 → Not 75 79 → Not 72 79 → Not 67 69 → Not 76 65 → Not 67 65 → Not 86 65 → Not 72 65 → Not 69 81 → tag_of x y ≡ None
   unfolding tag_of first marks

@@ -48,8 +48,19 @@ pub record RecordSays (ws ms la be : List ℕ) (r : ℕ) (b : Bool) : Type 0 whe
   pub answer : b ≡ keeps ws r
   pub next : b ≡ true → Passed ws ms la be (r + 1)
 
--- the first n records lie in the table, there is room to note each, and the notes are blank: no chain has begun; a mark and the one before are read
--- only after they are written
+-- blank marks for n records: no chain has begun; a mark and the one before are read only after they are written
+pub record Blank (ms la be : List ℕ) (n : ℕ) : Type 0 where
+  pub room : Room ms la be n
+  pub last : (b : ℕ) → b < length la → get_or la b 0 ≡ 0
+
+-- the first n records lie in the table and have blank marks, and there is room to note each
+pub record LentAsks (ws ms la be es : List ℕ) (n : ℕ) : Type 0 where
+  pub inside : 4 * n ≤ length ws
+  pub few : n ≤ 4096
+  pub blank : Blank ms la be n
+  pub equations : n ≤ length es
+
+-- the same of notes for at most N records
 pub record BrokenAsks {N : ℕ} (ws : List ℕ) (x : Notes N) (n : ℕ) : Type 0 where
   pub inside : 4 * n ≤ length ws
   pub few : n ≤ 4096

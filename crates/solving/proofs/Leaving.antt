@@ -5,7 +5,7 @@ use mathlib.Core.Path.{◌≡◌, refl, sym, ap, ◌∙◌}
 use mathlib.Core.List.{List}
 use mathlib.Core.Bool.{Bool, true, false}
 use native.Mathlib.Omega.{arith}
-use lib.ListN.{take}
+use lib.ListN.{take, replicate}
 use mir.Syntax.{w32}
 use mir.Val.{Fits}
 use Rattle.rules.specs.declared.Reply.{Reply}
@@ -16,7 +16,6 @@ use Rattle.rules.specs.Solve.{admitted, refusal, Behind, leaves}
 use Rattle.invariants.specs.Admit.{Admitted, refusal_says}
 use Rattle.promise.specs.Admitting.{admitted_is}
 use Rattle.records.specs.declared.Notes.{Notes}
-use Rattle.records.specs.Notes.{blank}
 use Rattle.records.specs.Rows.{BrokenAsks}
 use Rattle.records.specs.ZerosLaws.{zeros_ask}
 use Rattle.checks.specs.Refusing.{refusal_of, outside, Settled}
@@ -24,7 +23,7 @@ use Rattle.checks.specs.RefusingLaws.{outside_refused, inside_sound, in_table}
 use Rattle.machine.specs.Leaving.{Admits, LeftBehind}
 use Rattle.solving.specs.Checking.{Inside}
 
-pub blank-serve : (k : ℕ) (x : Notes k) → x ≡ blank k → (ws ss : List ℕ) (n : ℕ) → Inside k ws ss n → BrokenAsks ws x n
+pub blank-serve : (k : ℕ) (x : Notes k) → x.last ≡ replicate k 0 → (ws ss : List ℕ) (n : ℕ) → Inside k ws ss n → BrokenAsks ws x n
 blank-serve k x e ws ss n h = let z = in_table ws ss n h.within in zeros_ask k x e ws n h.few z.0 z.1
 
 -- 4

@@ -1,7 +1,7 @@
 -- The bytes that are stored for a word, for a record and for records one after another are the rules'.
 use Prim.Native.Nat.{ℕ, suc, ◌+◌, ◌-◌, ◌*◌, ◌<◌, ◌≤◌}
 use mathlib.Core.Path.{◌≡◌, refl, sym, ◌∙◌}
-use mathlib.Core.List.{List, [], ◌∷◌, ◌++◌}
+use mathlib.Core.List.{List, ◌++◌}
 use native.Mathlib.Omega.{arith}
 use lib.ListN.{length, drop}
 use lib.Seq.{sets, sets-eq, take_all}
@@ -9,30 +9,16 @@ use borrow.Rule.Slice.PartMut.{put_mid}
 use mir.Syntax.{w32}
 use Rattle.std.specs.Int.{to_le_bytes}
 use Rattle.std.proofs.lemmas.Slice.{put_mid-paste}
-use Rattle.rules.specs.Words.{BT, AR, KO, HO, CE, LA, CA, VA, HA, EQ}
-use Rattle.rules.specs.File.{marks}
 use Rattle.rules.specs.FileWrite.{word_bytes, mark_bytes, record_bytes, file_bytes}
 use Rattle.laws.specs.Sound.{known-tag}
 use Rattle.laws.specs.Rows.{rows_more}
 use Rattle.laws.specs.FileRows.{file_bytes-rows, length-record_bytes}
 use Rattle.table.specs.declared.Record.{Record}
 use Rattle.table.specs.Reading.{IsRecord}
-use Rattle.write.specs.Asks.{Known, RecordAsks, RecordsAsk}
+use Rattle.write.specs.Asks.{RecordAsks, RecordsAsk}
 
 pub mark_is : (t k : ℕ) (m : List ℕ) → t ≡ k → mark_bytes k ≡ m → mark_bytes t ≡ m
 mark_is t k m e p = rw e p
-
-past : (t k : ℕ) → k ≤ t → (t ≡ k → ⊥) → k + 1 ≤ t
-past t k l z = omega arith
-
--- what is none of the other nine tags is EQ
-pub mark_last : (t : ℕ) → Known t → (t ≡ BT → ⊥) → (t ≡ AR → ⊥) → (t ≡ KO → ⊥) → (t ≡ HO → ⊥) → (t ≡ CE → ⊥) → (t ≡ LA → ⊥) → (t ≡ CA → ⊥) → (t ≡ VA → ⊥) → (t ≡ HA → ⊥) → mark_bytes t ≡ 69 ∷ 81 ∷ []
-unfolding marks mark_bytes
-mark_last t k bt ar ko ho ce la ca va ha =
-    let low = past t HA (past t VA (past t CA (past t LA (past t CE (past t HO (past t KO (past t AR (past t BT k.low bt) ar) ko) ho) ce) la) ca) va) ha in
-    let high = k.high in
-    let e : t ≡ EQ = omega arith in
-    mark_is t EQ _ e refl
 
 -- bytes that are copied into a part are set one after another
 copied : (bs vs ys : List ℕ) (i k : ℕ) → ys ≡ vs → k ≡ i + length vs → k ≤ length bs → sets bs i vs ≡ put_mid i (k - i) bs ys

@@ -28,7 +28,8 @@ fn mark_of(tag: u32) -> [u8; 2]
         table::CA => *b"CA",
         table::VA => *b"VA",
         table::HA => *b"HA",
-        _ => *b"EQ",
+        table::EQ => *b"EQ",
+        _ => unreachable!(),
     }
 }
 

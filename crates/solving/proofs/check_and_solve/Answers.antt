@@ -1,9 +1,9 @@
-use Rattle.std.proofs.Common.{arith}
+use Rattle.std.proofs.Common.{arith, rules}
 use Rattle.solving.proofs.Leaving.{blank-serve, left_refused, settled_admits, left_solved}
 use Rattle.solving.proofs.check_and_solve.Goals as goal
 
 pub refuse-requires : goal.refuse-requires
-refuse-requires g c = let small = c.requires.small in (omega arith, blank-serve _ _ c.blank-notes.ensures _ _ _ c.requires)
+refuse-requires g c = let small = c.requires.small in (omega arith, blank-serve _ _ (search rules) _ _ _ c.requires)
 
 pub machine-requires : goal.machine-requires
 machine-requires g c = settled_admits _ _ _ _ _ _ _ c.requires c.refuse.ensures _ _ c.room_of.ensures c.in-Ok.is

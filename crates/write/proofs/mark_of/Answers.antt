@@ -1,7 +1,7 @@
 use mathlib.Core.Path.{refl}
 use Rattle.rules.specs.File.{marks}
 use Rattle.rules.specs.FileWrite.{mark_bytes}
-use Rattle.write.proofs.Storing.{mark_is, mark_last}
+use Rattle.write.proofs.Storing.{mark_is}
 use Rattle.write.proofs.mark_of.Goals as goal
 
 pub returns-in-1 : goal.returns-in-1
@@ -40,5 +40,6 @@ pub returns-in-9 : goal.returns-in-9
 unfolding marks mark_bytes
 returns-in-9 c = mark_is _ 9 _ c.in-9.is refl
 
-pub returns-in_default : goal.returns-in_default
-returns-in_default c = search mark_last
+pub returns-in-10 : goal.returns-in-10
+unfolding marks mark_bytes
+returns-in-10 c = mark_is _ 10 _ c.in-10.is refl
