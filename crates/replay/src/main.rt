@@ -18,7 +18,9 @@ fn start(bytes: &[u8], table: &mut [u32], solutions: &mut [u32], queue: &mut [u3
     fill(bytes, third, queue)
 }
 
-// A line of words. It and the next each say the size of a line's buffer once; one form of both would be longer than either.
+// A line of words. It and the next each say the size of a line's buffer once; one form of both would be longer than either. This
+// buffer has a frame of its own: with one in each caller a problem of the first kind needs 1,000 KB of stack, and so 736.
+#[inline(never)]
 fn print<W: Write>(out: &mut W, name: &[u8], words: &[u32]) -> Result<(), Stopped> {
     print_words(out, &mut [0u8; 270000], name, words)
 }

@@ -27,16 +27,23 @@ pub enum Stopped {
     UnknownKind,
 }
 
-impl Display for Stopped {
-    fn fmt<W: fmt::Write>(&self, f: &mut Formatter<W>) -> fmt::Result {
-        f.write_str(match self {
+impl Stopped {
+    // The reason in words.
+    fn text(self) -> &'static str {
+        match self {
             Stopped::CutOff => "the input is cut off",
             Stopped::NotRead => "the input could not be read",
             Stopped::WordsWithoutRoom => "a problem has more words than there is room for",
             Stopped::MoreProblems => "more than 1,000,000 problems",
             Stopped::LongLine => "a line is longer than the buffer",
             Stopped::UnknownKind => "an unknown kind of problem",
-        })
+        }
+    }
+}
+
+impl Display for Stopped {
+    fn fmt<W: fmt::Write>(&self, f: &mut Formatter<W>) -> fmt::Result {
+        f.write_str(self.text())
     }
 }
 
@@ -45,9 +52,11 @@ fn put_all<W: Write>(out: &mut W, bytes: &[u8]) {
     let _ = out.write_all(bytes);
 }
 
-// A line that says why the program stops.
-pub fn stop<W: Write>(out: &mut W, why: Stopped) {
-    let _ = writeln!(out, "stopped: {why}");
+// A line that says why the program stops; where a part can not be written, the others are still tried.
+pub fn stop<W: Write>(out: &mut W, why: &[u8]) {
+    put_all(out, b"stopped: ");
+    put_all(out, why);
+    put_all(out, b"\n");
 }
 
 // Some bytes of the input; none at its end or where a read fails.
@@ -105,40 +114,37 @@ pub fn read_words<R: Read>(input: &mut R, bytes: &mut [u8], count: usize) -> Res
 }
 
 // The end of the input, after the last problem that a program takes.
-pub fn read_end<R: Read>(input: &mut R) -> Result<(), Stopped> {
+pub fn expect_end<R: Read>(input: &mut R) -> Result<(), Stopped> {
     if read_head(input, &mut [0u8; 1])? {
         return Err(Stopped::MoreProblems);
     }
     Ok(())
 }
 
-// Takes the problems one after another up to the end of the input, where `take` answers false.
-fn take_each<R: Read, W: Write, F: FnMut(&mut R, &mut W) -> Result<bool, Stopped>>(
-    input: &mut R,
-    out: &mut W,
-    mut take: F,
-) -> Result<(), Stopped>
-    requires { F.IsAlwaysCallable take }
-{
-    for _ in 0..PROBLEMS {
-        if !take(input, out)? {
-            return Ok(());
-        }
+// After the last problem that a program takes: what follows is said.
+pub fn read_end<R: Read, W: Write>(input: &mut R, out: &mut W) {
+    if let Err(why) = expect_end(input) {
+        stop(out, why.text().as_bytes());
     }
-    read_end(input)
 }
 
-// The whole of a program on stored problems: `take` reads one and prints what it answers to it, and where it stops, a last line says why.
+// The whole of a program on stored problems: `take` reads one and prints what it answers to it, or answers false at the end of the input; where it
+// stops, a last line says why.
 pub fn take_problems<R: Read, W: Write, F: FnMut(&mut R, &mut W) -> Result<bool, Stopped>>(
     input: &mut R,
     out: &mut W,
-    take: F,
+    mut take: F,
 )
     requires { F.IsAlwaysCallable take }
 {
-    if let Err(why) = take_each(input, out, take) {
-        stop(out, why);
+    for _ in 0..PROBLEMS {
+        match take(input, out) {
+            Ok(true) => {}
+            Ok(false) => return,
+            Err(why) => return stop(out, why.text().as_bytes()),
+        }
     }
+    read_end(input, out);
 }
 
 // Word i of a text of bytes.
