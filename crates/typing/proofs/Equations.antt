@@ -17,7 +17,7 @@ use Rattle.rules.specs.Typing.{checks, typed, ill_typed}
 use Rattle.rules.specs.Pattern.{offence, no_pattern}
 use Rattle.laws.specs.Tests.{false_true}
 use Rattle.laws.specs.Sound.{equation_fields}
-use Rattle.laws.specs.Members.{none, every_at}
+use Rattle.laws.specs.Members.{Every, none, every_at}
 use Rattle.laws.specs.Places.{TermAt, Sides, sides_at}
 use Rattle.heads.specs.Stack.{binders}
 use Rattle.rules.specs.declared.Refused.TheVariants.{IllTyped, NoPattern}
@@ -87,16 +87,21 @@ still_low : (ws es : List ℕ) → still ws es ≤ NONE
 unfolding still
 still_low ws es = least_low NONE _
 
--- the first i of the equations are passed
-pub record Gone (ws st₀ es st : List ℕ) (low i : ℕ) : Type 0 where
+-- the first i of those that are gone over are passed: what is found of the equations is found in the rest
+pub record Gone (ws st₀ es xs st : List ℕ) (low i : ℕ) : Type 0 where
   pub asks : JudgeAsks ws st₀ es
+  pub each : Every (λ x. (x < asks.top) × (has ws x EQ ≡ true)) xs
   pub same_length : length st ≡ length st₀
-  pub ill : first_of (fails ws) es ≡ first_of (fails ws) (drop i es)
-  pub off : still ws es ≡ min low (still ws (drop i es))
+  pub ill : first_of (fails ws) es ≡ first_of (fails ws) (drop i xs)
+  pub off : still ws es ≡ min low (still ws (drop i xs))
   pub few : low ≤ NONE
 
-pub gone_none : (ws st es : List ℕ) → JudgeAsks ws st es → Gone ws st es st NONE 0
-gone_none ws st es a = let l = still_low ws es in record { asks = a; same_length = refl; ill = refl; off = omega arith; few = omega arith }
+-- all the equations are to be gone over
+pub gone_none : (ws st es xs : List ℕ) → JudgeAsks ws st es → xs ≡ es → Gone ws st es xs st NONE 0
+gone_none ws st es xs a e =
+    let l = still_low ws es in
+    let p : Every (λ x. (x < a.top) × (has ws x EQ ≡ true)) es = rw a.noted (those_every (λ e. has ws e EQ) a.top) in
+    rw e (record { asks = a; each = p; same_length = refl; ill = refl; off = omega arith; few = omega arith })
 
 -- what is found in the list is judged
 module _ (ws es : List ℕ) where
@@ -122,24 +127,24 @@ module _ (ws es : List ℕ) where
     unfolding judged
     low_judges z = record { says = λ n q. rw (ill_noted n q ∙ f, off_noted n q ∙ o, ne_eqb _ _ z, judged, off_noted n q ∙ o) }
 
-module _ (ws st₀ es st : List ℕ) (low i : ℕ) (p : Gone ws st₀ es st low i) where
-  module _ (h : i < length es) (e : ℕ) (is : get_or es i 0 ≡ e) where
-    next : drop i es ≡ e ∷ drop (i + 1) es
-    next = rw (add-one i, drop-cons es i 0 h, is)
+module _ (ws st₀ es xs st : List ℕ) (low i : ℕ) (p : Gone ws st₀ es xs st low i) where
+  module _ (h : i < length xs) (e : ℕ) (is : get_or xs i 0 ≡ e) where
+    next : drop i xs ≡ e ∷ drop (i + 1) xs
+    next = rw (add-one i, drop-cons xs i 0 h, is)
 
     pub equation_asks : EquationAsks ws st low e
     unfolding has
     equation_asks =
         let r = p.asks.room in
         let l = p.same_length in
-        let q = every_at (λ x. (x < p.asks.top) × (has ws x EQ ≡ true)) es i (omega arith) (rw p.asks.noted (those_every (λ e. has ws e EQ) p.asks.top)) in
+        let q = every_at (λ x. (x < p.asks.top) × (has ws x EQ ≡ true)) xs i (omega arith) p.each in
         record { top = p.asks.top; legal = p.asks.legal; within = rw is at q.0; is = eqb-true _ _ (rw is at q.1); room = omega arith; few = p.few }
 
     module _ (low₁ : ℕ) (b : Bool) (o : Offends ws e low low₁ b) where
       pub equation_fails : b ≡ true → Judges ws es (Err (IllTyped e))
       equation_fails t = ill_judges ws es e (p.ill ∙ ap (first_of (fails ws)) next ∙ first_stop (fails ws) e _ (sym o.says ∙ t))
 
-      pub gone_more : (st₁ : List ℕ) → length st₁ ≡ length st → b ≡ false → Gone ws st₀ es st₁ low₁ (i + 1)
+      pub gone_more : (st₁ : List ℕ) → length st₁ ≡ length st → b ≡ false → Gone ws st₀ es xs st₁ low₁ (i + 1)
       unfolding still least
       gone_more st₁ l t =
           let off = rw next at p.off in
@@ -147,15 +152,16 @@ module _ (ws st₀ es st : List ℕ) (low i : ℕ) (p : Gone ws st₀ es st low 
           let few = p.few in
           record {
             asks = p.asks;
+            each = p.each;
             same_length = l ∙ p.same_length;
             ill = p.ill ∙ ap (first_of (fails ws)) next ∙ first_on (fails ws) e _ (sym o.says ∙ t);
             off = omega arith;
             few = omega arith;
           }
 
-  module _ (h : length es ≤ i) where
-    ended : drop i es ≡ []
-    ended = drop_of_length-le es h
+  module _ (h : length xs ≤ i) where
+    ended : drop i xs ≡ []
+    ended = drop_of_length-le xs h
 
     all_check : first_of (fails ws) es ≡ None
     unfolding first_of
