@@ -1,3 +1,5 @@
+use Prim.Native.Nat.{◌<◌, ◌≤◌}
+use native.Mathlib.Omega.{arith}
 use Rattle.store.specs.SaidLaws.{failure_passed}
 use Rattle.rewrite.proofs.Lambdas.{turn_first, turn_room, turn_since, turn_stops, turn_next, turn_ends}
 use Rattle.rewrite.proofs.then_lambdas.Goals as goal
@@ -9,10 +11,10 @@ pub push-requires : goal.push-requires
 push-requires c = (search turn_room, search turn_since)
 
 pub returns-in_err-written : goal.returns-in_err-written
-returns-in_err-written c = search (turn_stops, c.in_err-written.was, failure_passed)
+returns-in_err-written c = let lt : c.loop.counter < c.args.k = omega arith in search (turn_stops, c.in_err-written.was, failure_passed)
 
 pub loop-preserved : goal.loop-preserved
-loop-preserved c = search (turn_next, c.in_ok-written.was)
+loop-preserved c = let lt : c.loop.counter < c.args.k = omega arith in search (turn_next, c.in_ok-written.was)
 
 pub returns : goal.returns
-returns c = search turn_ends
+returns c = let over : c.args.k ≤ c.loop.counter = omega arith in search turn_ends
