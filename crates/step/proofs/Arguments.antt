@@ -1,12 +1,14 @@
 -- Step 3: the argument pairs join the queue, unless waiting pairs plus new ones exceed cap.
 use Prim.Native.Nat.{ℕ, ◌+◌, ◌<◌, ◌≤◌}
-use mathlib.Core.Path.{◌≡◌}
+use mathlib.Core.Path.{◌≡◌, refl}
 use mathlib.Core.List.{List}
 use native.Mathlib.Omega.{arith}
 use lib.ListN.{length}
 use borrow.Author.Tests.{le-leb, lt-leb}
-use Rattle.std.specs.Prelude.{Result, Ok, Err}
+use Rattle.std.specs.Prelude.{Result, Ok, Err, ◌⊎◌}
+use Rattle.std.proofs.Common.{inl, inr}
 use Rattle.rules.specs.declared.Failure.{Failure}
+use Rattle.rules.specs.declared.Failure.TheVariants.{QueueFull}
 use Rattle.queue.specs.declared.Ring.{Ring}
 use Rattle.step.specs.declared.Step.TheVariants.{Done}
 use Rattle.rules.specs.Store.{goes, fail, ◌>>=◌}
@@ -16,6 +18,11 @@ use Rattle.queue.specs.Ring.{view, Queued}
 use Rattle.queue.specs.RingLaws.{view-length}
 use Rattle.step.specs.Said.{Answer, stepped, Rings}
 use Rattle.step.proofs.Said.{failed_rings, done_rings}
+
+-- the queue was full, or the pairs have joined
+pub full-or-joined : (q : List ℕ) (g : Ring) (new : List Waiting) (q₁ : List ℕ) (x : Result Ring Failure) → Queued q g new q₁ x → (x ≡ Err QueueFull) ⊎ ((g₁ : Ring) × (x ≡ Ok g₁))
+full-or-joined q g new q₁ (Ok g₁) h = inr (g₁, refl)
+full-or-joined q g new q₁ (Err e) h = let z = (h.full e refl).0 in inl (rw z refl)
 
 -- these pairs were to join, and this is the step's answer
 pub record Argues (q : List ℕ) (g : Ring) (new : List Waiting) (used : ℕ) (q₁ : List ℕ) (x : Answer) : Type 0 where
