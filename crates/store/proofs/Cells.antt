@@ -29,6 +29,10 @@ push-alike R t a a₁ b s ws ss e h = go (ltb s.used R) refl
     go true z = let q = rw (z, push) at h in let y : ◌≡◌ {A = ℕ} 0 1 = cc in absurd (omega arith)
     go false z = let q = rw (z, push) at h in rw (z, push) q
 
+-- a cell of the same record, in other words
+pub push_equal : (n R b u : ℕ) (ws ws₁ : List ℕ) (x : Answer) (a a₁ : ℕ) → Does n (push R 5 a b) ws u ws₁ x → a ≡ a₁ → Does n (push R 5 a₁ b) ws u ws₁ x
+push_equal n R b u ws ws₁ x a a₁ p e = rw (← e) p
+
 -- the cells of the elements behind the rest are written
 pub record Behind (R n : ℕ) (noted ws₀ : List ℕ) (u₀ : ℕ) (ws rest : List ℕ) (w : Written) : Type 0 where
   pub kept : length ws ≡ length ws₀

@@ -1,7 +1,8 @@
 use mathlib.Core.Path.{◌≡◌}
+use native.Mathlib.Omega.{arith}
 use Rattle.std.specs.Slice.Iter.{iter_rest}
 use Rattle.store.specs.SaidLaws.{failure_passed}
-use Rattle.store.proofs.Cells.{behind-first, behind-asks, behind_stops, behind_more, behind_end}
+use Rattle.store.proofs.Cells.{push_equal, behind-first, behind-asks, behind_stops, behind_more, behind_end}
 use Rattle.store.proofs.push_cells.Goals as goal
 
 pub loop-at-init : goal.loop-at-init
@@ -16,7 +17,10 @@ pub returns-in_err-cells : goal.returns-in_err-cells
 returns-in_err-cells c = let s = c.in-Some.ensures.steps in search (behind_stops, s, c.in_err-cells.was, failure_passed)
 
 pub loop-at-preserved : goal.loop-at-preserved
-loop-at-preserved c = let s = c.in-Some.ensures.steps in search (behind_more, s, c.in_ok-cells.was)
+loop-at-preserved c =
+    let s = c.in-Some.ensures.steps in
+    let p = push_equal _ _ _ _ _ _ _ _ c.in-Some.field-0.now c.push.ensures (omega arith) in
+    search (behind_more, s, p, c.in_ok-cells.was)
 
 pub returns : goal.returns
 returns c = let s = c.in-None.ensures.steps in search (behind_end, s.0)
