@@ -17,7 +17,7 @@ use Rattle.rules.specs.Typing.{checks, typed, ill_typed}
 use Rattle.rules.specs.Pattern.{offence, no_pattern}
 use Rattle.laws.specs.Tests.{false_true}
 use Rattle.laws.specs.Sound.{equation_fields}
-use Rattle.laws.specs.Members.{Every, none, every_at}
+use Rattle.laws.specs.Members.{none, every_at}
 use Rattle.laws.specs.Places.{TermAt, Sides, sides_at}
 use Rattle.heads.specs.Stack.{binders}
 use Rattle.rules.specs.declared.Refused.TheVariants.{IllTyped, NoPattern}
@@ -87,21 +87,17 @@ still_low : (ws es : List ℕ) → still ws es ≤ NONE
 unfolding still
 still_low ws es = least_low NONE _
 
--- the first i of those that are gone over are passed: what is found of the equations is found in the rest
+-- the first i of those that are gone over are passed, and these are all the equations
 pub record Gone (ws st₀ es xs st : List ℕ) (low i : ℕ) : Type 0 where
   pub asks : JudgeAsks ws st₀ es
-  pub each : Every (λ x. (x < asks.top) × (has ws x EQ ≡ true)) xs
+  pub all : xs ≡ es
   pub same_length : length st ≡ length st₀
   pub ill : first_of (fails ws) es ≡ first_of (fails ws) (drop i xs)
   pub off : still ws es ≡ min low (still ws (drop i xs))
   pub few : low ≤ NONE
 
--- all the equations are to be gone over
 pub gone_none : (ws st es xs : List ℕ) → JudgeAsks ws st es → xs ≡ es → Gone ws st es xs st NONE 0
-gone_none ws st es xs a e =
-    let l = still_low ws es in
-    let p : Every (λ x. (x < a.top) × (has ws x EQ ≡ true)) es = rw a.noted (those_every (λ e. has ws e EQ) a.top) in
-    rw e (record { asks = a; each = p; same_length = refl; ill = refl; off = omega arith; few = omega arith })
+gone_none ws st es xs a e = let l = still_low ws es in rw e (record { asks = a; all = refl; same_length = refl; ill = refl; off = omega arith; few = omega arith })
 
 -- what is found in the list is judged
 module _ (ws es : List ℕ) where
@@ -137,7 +133,7 @@ module _ (ws st₀ es xs st : List ℕ) (low i : ℕ) (p : Gone ws st₀ es xs s
     equation_asks =
         let r = p.asks.room in
         let l = p.same_length in
-        let q = every_at (λ x. (x < p.asks.top) × (has ws x EQ ≡ true)) xs i (omega arith) p.each in
+        let q = every_at (λ x. (x < p.asks.top) × (has ws x EQ ≡ true)) xs i (omega arith) (rw (p.all, p.asks.noted) (those_every (λ e. has ws e EQ) p.asks.top)) in
         record { top = p.asks.top; legal = p.asks.legal; within = rw is at q.0; is = eqb-true _ _ (rw is at q.1); room = omega arith; few = p.few }
 
     module _ (low₁ : ℕ) (b : Bool) (o : Offends ws e low low₁ b) where
@@ -152,7 +148,7 @@ module _ (ws st₀ es xs st : List ℕ) (low i : ℕ) (p : Gone ws st₀ es xs s
           let few = p.few in
           record {
             asks = p.asks;
-            each = p.each;
+            all = p.all;
             same_length = l ∙ p.same_length;
             ill = p.ill ∙ ap (first_of (fails ws)) next ∙ first_on (fails ws) e _ (sym o.says ∙ t);
             off = omega arith;
