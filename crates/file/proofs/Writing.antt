@@ -1,6 +1,5 @@
 -- File records written to a table one after another.
-use Rattle.std.specs.Prelude.{Option, ℕ, Some, None}
-use Rattle.std.specs.Option.{unwrap_or}
+use Rattle.std.specs.Prelude.{ℕ, Some}
 use Prim.Native.Nat.{ℕ, suc, ◌+◌, ◌*◌, ◌<◌, ◌≤◌}
 use mathlib.Core.Path.{◌≡◌, refl}
 use mathlib.Core.List.{List, ◌++◌}
@@ -11,19 +10,14 @@ use Rattle.laws.specs.Rows.{rows_more}
 use Rattle.laws.specs.FileRows.{record_words, file_words-rows}
 use Rattle.file.specs.Writing.{Fitting, stored}
 
-tag_or : (f : Option ℕ) → tag_word f ≡ unwrap_or f 0
-unfolding tag_word
-tag_or (Some k) = refl
-tag_or None = refl
-
-pub stored_by : (bs ws : List ℕ) (r : ℕ) (f : Option ℕ) (t a b c : ℕ) → marked bs r ≡ f → t ≡ unwrap_or f 0 → word bs (14 * r + 2) ≡ a → word bs (14 * r + 6) ≡ b
-    → word bs (14 * r + 10) ≡ c → stored bs r ws ≡ set (set (set (set ws (4 * r) t) (4 * r + 1) a) (4 * r + 2) b) (4 * r + 3) c
-unfolding stored
-stored_by bs ws r f t a b c p q ea eb ec =
+pub stored_by : (bs ws : List ℕ) (r t a b c : ℕ) → marked bs r ≡ Some t → word bs (14 * r + 2) ≡ a → word bs (14 * r + 6) ≡ b → word bs (14 * r + 10) ≡ c
+    → stored bs r ws ≡ set (set (set (set ws (4 * r) t) (4 * r + 1) a) (4 * r + 2) b) (4 * r + 3) c
+unfolding stored tag_word
+stored_by bs ws r t a b c p ea eb ec =
     let one : 4 * r + 1 ≡ suc (4 * r) = omega arith in
     let two : 4 * r + 2 ≡ suc (suc (4 * r)) = omega arith in
     let three : 4 * r + 3 ≡ suc (suc (suc (4 * r))) = omega arith in
-    rw (p, tag_or f, ← q, ea, eb, ec, one, two, three)
+    rw (p, tag_word, ea, eb, ec, one, two, three)
 
 -- one record more is written
 pub stored_more : (bs ws₀ ws ws₁ : List ℕ) (r n : ℕ) → r < n → Fitting bs ws₀ n → ws ≡ file_words bs 0 r ++ drop (4 * r) ws₀

@@ -11,8 +11,8 @@ returns-then-len-ne0 c = search uneven
 pub returns-then-table-n : goal.returns-then-table-n
 returns-then-table-n c = search too_small
 
-pub returns-in-Some : goal.returns-in-Some
-returns-in-Some c = search unknown_mark
+pub returns-then-r-n : goal.returns-then-r-n
+returns-then-r-n c = search unknown_mark
 
 pub returns : goal.returns
 returns c = search all_read
